@@ -1,0 +1,4 @@
+pub mod Fractions
+pub mod Grids
+pub mod Steps
+pub mod Digits

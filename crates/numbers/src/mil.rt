@@ -1,0 +1,44 @@
+// The form "mil": every multiple of 1/1000 up to a top of 3,000,000.
+ghost use mathlib.Core.Path.{_≡_};
+ghost use Prim.Native.Nat.{_≤_};
+ghost use lib.Dec.{lit<, lit≤};
+ghost use lib.IntN.{natAbs};
+use crate::steps::EqualSteps;
+
+// So many thousandths.
+#[derive(Clone, Copy)]
+pub struct Mil {
+    count: i64,
+    ghost within: { natAbs count ≤ 3000000000 },
+}
+
+pub impl EqualSteps for Mil as MilSteps {
+    ghost steps = { record { per-one = 1000; most = 3000000000; some = lit< tt; wide = lit≤ tt; narrow = lit≤ tt } };
+
+    ghost counts = { λ v. v .count };
+
+    fn per_one() -> u32 {
+        1000
+    }
+
+    fn most() -> u32 {
+        3_000_000_000
+    }
+
+    fn count(self) -> i64 {
+        self.count
+    }
+
+    fn of(count: i64) -> Mil {
+        Mil { count }
+    }
+}
+
+impl Mil {
+    // The value in thousandths, exactly.
+    pub fn thousandths(self) -> i64
+        ensures { λ r. ⌜ r ≡ self .count ⌝ }
+    {
+        self.count
+    }
+}
