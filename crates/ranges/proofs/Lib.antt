@@ -1,0 +1,4 @@
+pub mod Steps
+pub mod Verdicts
+pub mod Calls
+pub mod Computed

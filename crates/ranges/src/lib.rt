@@ -1,0 +1,9 @@
+// Ranges of numbers, the steps of a working on them, and verdicts over two ranges.
+mod range;
+mod verdict;
+
+pub use range::Range;
+pub use range::Sign;
+pub use verdict::Kind;
+pub use verdict::Verdict;
+pub use verdict::judge;
