@@ -58,10 +58,7 @@ impl Sig {
         if n < -reach || reach < n {
             return Err(Refusal::BeyondReach);
         }
-        Ok(Sig::nearest(
-            wide_quotient(n, d, rounding) as i64,
-            rounding,
-        ))
+        Ok(Sig::nearest(wide_quotient(n, d, rounding) as i64, rounding))
     }
 }
 

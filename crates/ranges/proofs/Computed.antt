@@ -82,7 +82,7 @@ module _ {V : Type 0} (G : Gauge V) where
 
   module _ (grid : IsGrid G) where
     -- what is q rounded means what computing gives
-    computed-end : (to : Rounding) (q : Fraction) (v : V) → InReach G q → IsRounded (G .meaning) to q v → G .meaning v ≈ᶠ rounded G to q
+    pub computed-end : (to : Rounding) (q : Fraction) (v : V) → InReach G q → IsRounded (G .meaning) to q v → G .meaning v ≈ᶠ rounded G to q
     computed-end Down q v i d = let (w, e, x) = grid .computes Down q i in (≤ᶠ-trans (x .1 v (d .0)) (e .0), ≤ᶠ-trans (e .1) (d .1 w (x .0)))
     computed-end Up q v i d = let (w, e, x) = grid .computes Up q i in (≤ᶠ-trans (d .1 w (x .0)) (e .0), ≤ᶠ-trans (e .1) (x .1 v (d .0)))
 
@@ -187,3 +187,30 @@ module _ {V : Type 0} (G : Gauge V) where
         go (Err BeyondReach) true d j = refl
         go (Err BeyondReach) false d j = absurd (false≢true (d .1 j))
         go (Err ZeroDivisor) t d j = absurd j
+
+    -- every verdict is given
+    judged-by : (h k : Bool) {H B : Type 0} → Decides h H → Decides k B → Judged H B (decided h k)
+    judged-by true k d e = d .0 refl
+    judged-by false true d e = (denied d refl, e .0 refl)
+    judged-by false false d e = (denied d refl, denied e refl)
+
+    -- the square of an end that is above zero, or else any value
+    square-end : (to : Rounding) (x : Fraction) → (Bursts G x → ⊥) → (v : V) × (zeroᶠ <ᶠ x → IsRounded (G .meaning) to (x *ᶠ x) v)
+    square-end to x n = go (above x) (decides-lt zeroᶠ x)
+      where
+        go : (t : Bool) → Decides t (zeroᶠ <ᶠ x) → (v : V) × (zeroᶠ <ᶠ x → IsRounded (G .meaning) to (x *ᶠ x) v)
+        go true d = let (v, _, r) = grid .computes to (x *ᶠ x) (squared n (d .0 refl)) in (v, λ _. r)
+        go false d = (grid .zero .0, λ p. absurd (denied d refl p))
+
+    pub judge-exists : (k : Kind) (a b : Interval) → Judges G k a b (judged G k a b)
+    judge-exists Plain a b = judged-by (leᶠ (a .high) (b .low)) (not (leᶠ (a .low) (b .high))) (decides-le (a .high) (b .low)) (decides-lt (b .high) (a .low))
+    judge-exists Root a b = go (bursts G (a .high) || bursts G (a .low)) (either (bursts G (a .high)) (bursts G (a .low)) (decides-bursts (a .high)) (decides-bursts (a .low)))
+      where
+        go : (t : Bool) → Decides t (SquareBeyond G a) → Judges G Root a b (cond t (Err BeyondReach) (Ok (decided (rootHolds G a b) (rootBreaks G a b))))
+        go true d = d .0 refl
+        go false d =
+            let n = denied d refl in
+            let (u, up) = square-end Up (a .high) (λ x. n (inl x)) in
+            let (l, down) = square-end Down (a .low) (λ x. n (inr x)) in
+            let s : Squares G a = record { up = u; down = l; up-is = up; down-is = down } in
+            (n, (s, judged-by (rootHolds G a b) (rootBreaks G a b) (decides-holds a b n s) (decides-breaks a b n s)))

@@ -1,4 +1,5 @@
+pub mod Computed
 pub mod Steps
 pub mod Verdicts
 pub mod Calls
-pub mod Computed
+pub mod Same

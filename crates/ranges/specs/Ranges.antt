@@ -127,6 +127,17 @@ Agrees G (Ok r) (Err e) = ⊥
 Agrees G (Err e) (Ok a) = ⊥
 Agrees G (Err e) (Err f) = e ≡ f
 
+-- the same range, perhaps in other terms
+abbrev pub Alike : Interval → Interval → Type 0
+Alike a b = Inside a b × Inside b a
+
+-- the range that computing gives, or the refusal
+abbrev pub Matches : {V : Type 0} → Gauge V → Result (Range V) Refusal → Result Interval Refusal → Type 0
+Matches G (Ok r) (Ok a) = Alike (span G r) a
+Matches G (Ok r) (Err e) = ⊥
+Matches G (Err e) (Ok a) = ⊥
+Matches G (Err e) (Err f) = e ≡ f
+
 -- what is promised of a step: its result, the laws, and what computing gives
 pub record Step-promise {V : Type 0} (G : Gauge V) (s : Sign) (a b : Interval) (o : Result (Range V) Refusal) : Type 0 where
   pub answer : IsStep G s a b o

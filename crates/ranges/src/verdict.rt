@@ -5,11 +5,11 @@ ghost use Rattle.std.specs.declared.result.Result.the-variants.{Ok};
 ghost use Rattle.ranges.specs.Ranges.{span};
 ghost use Rattle.ranges.specs.Verdicts.{SquareOf, RootHolds, RootBreaks, Judges, Verdict-promise};
 ghost use Rattle.ranges.specs.declared.verdict.Kind.the-variants.{Plain, Root};
+use crate::range::Range;
 use numbers::Form;
 use numbers::Refusal;
 use numbers::Rounding;
 use numbers::zero;
-use crate::range::Range;
 
 // Left at most right, or left at most the root of right.
 #[derive(Clone, Copy)]
