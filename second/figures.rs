@@ -150,7 +150,46 @@ fn chain(form: &Form, first: (&str, i128, i128), rest: &[(char, &str, i128, i128
     range
 }
 
+// A value of sig, in thousandths of one at a power of ten.
+fn power(mantissa: i128, exponent: i32) -> Frac {
+    let ten = 10i128.pow(exponent.unsigned_abs());
+    if exponent < 0 { frac(mantissa, ten) } else { frac(mantissa * ten, 1) }
+}
+
+// Results of sig at its edges, as rows for a test's table: two values, the sign between them, and the range in millionths.
+fn edges() {
+    let sig = &forms()[1];
+    let top = (999_999, 6);
+    let rows: Vec<((i128, i32), char, (i128, i32))> = vec![
+        (top, '+', (0, 0)), (top, '+', (1, -6)), (top, '+', (1, 6)), (top, '-', (1, 0)), (top, '-', (1, -6)),
+        ((-999_999, 6), '-', (0, 0)), ((-999_999, 6), '-', (1, -6)), ((-999_999, 6), '-', (1, 6)), ((-999_999, 6), '+', (1, 0)),
+        ((999_999, 5), '+', (1, 5)), ((999_999, 5), '+', (1, 0)), ((-999_999, 5), '-', (1, 5)), ((-999_999, 5), '-', (1, 0)),
+        ((999_999, 0), '+', (1, 0)), ((999_999, 0), '+', (5, -1)), ((999_999, 0), '+', (1, -6)),
+        ((-999_999, 0), '-', (1, 0)), ((-999_999, 0), '-', (5, -1)), ((-999_999, 0), '-', (1, -6)),
+        ((999_999, -6), '+', (1, -6)), ((-999_999, -6), '-', (1, -6)), ((999_999, -6), '+', (999_999, 6)),
+        ((999_999, 0), '*', (999_999, 0)), ((999_999, 0), '*', (-999_999, 0)), (top, '*', (1, 0)), (top, '*', (2, 0)), (top, '*', (999_999, -6)),
+        ((999_999, 3), '*', (1, 3)), ((1, -6), '*', (5, -1)), ((-1, -6), '*', (5, -1)), ((1, -6), '*', (1, -6)),
+        ((1, 0), '/', (3, 0)), ((-1, 0), '/', (3, 0)), ((1, 0), '/', (999_999, 0)), ((1, -6), '/', (999_999, 6)), ((-1, -6), '/', (999_999, 6)),
+        (top, '/', (999_999, -6)), (top, '/', (1, 0)), (top, '/', (-2, 0)), ((999_998, 6), '/', (999_999, -6)),
+        ((1, 0), '/', (0, 0)), ((0, 0), '/', (0, 0)), ((0, 0), '/', (-7, 0)),
+    ];
+    for ((m, k), sign, (n, l)) in rows {
+        let (a, b) = (power(m, k), power(n, l));
+        let name = match sign { '+' => "Plus", '-' => "Minus", '*' => "Times", _ => "Over" };
+        let millionths = |q: Frac| q.0 * 1_000_000 / q.1;
+        let outcome = match sig.step((a, a), sign, (b, b)) {
+            Ok((low, high)) => format!("Ok(({}, {}))", millionths(low), millionths(high)),
+            Err(13) => "Err(Refusal::BeyondReach)".to_string(),
+            Err(_) => "Err(Refusal::ZeroDivisor)".to_string(),
+        };
+        println!("(({m}, {k}), Sign::{name}, ({n}, {l}), {outcome}),");
+    }
+}
+
 fn main() {
+    if std::env::args().nth(1).as_deref() == Some("edges") {
+        return edges();
+    }
     println!("A slab 10 to 10.25 in thick, clear span 72 in. Rule slender: 12*lu*lu <= 34*34*h*h");
     for form in &forms() {
         println!("in {}:", form.name);

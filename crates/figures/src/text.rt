@@ -52,7 +52,7 @@ pub impl fmt::Display for Ends as EndsDisplay {
     }
 }
 
-pub fn word(verdict: Verdict) -> &'static str {
+pub(crate) fn word(verdict: Verdict) -> &'static str {
     match verdict {
         Verdict::Holds => "holds",
         Verdict::Breaks => "breaks",
@@ -60,7 +60,7 @@ pub fn word(verdict: Verdict) -> &'static str {
     }
 }
 
-pub fn form_word(form: FormName) -> &'static str {
+pub(crate) fn form_word(form: FormName) -> &'static str {
     match form {
         FormName::Mil => "mil",
         FormName::Sig => "sig",
@@ -68,7 +68,7 @@ pub fn form_word(form: FormName) -> &'static str {
 }
 
 // A formula with one sign more; what stands left of a product or quotient is put in parentheses if it is a sum.
-pub fn joined(
+pub(crate) fn joined(
     heap: Global,
     left: &str,
     sum: bool,

@@ -8,12 +8,13 @@ use borrow.Author.Differences.{ints}
 use lib.IntN.{ℤ, pos, negsuc, negℤ, natAbs, _+ℤ_, _-ℤ_, _*ℤ_}
 use lib.Signed.{_≤ℤ_, _<ℤ_}
 use Rattle.std.specs.declared.result.Result.the-variants.{Ok, Err}
+use Rattle.std.proofs.shelf.Signed.{by-ltZ}
 use Rattle.numbers.specs.declared.grid.Rounding.{Rounding}
 use Rattle.numbers.specs.declared.grid.Rounding.the-variants.{Down}
 use Rattle.numbers.specs.Fractions.{Fraction, _≤ᶠ_, _≈ᶠ_, over, whole, -ᶠ_}
 use Rattle.numbers.specs.Grids.{Gauge, IsRounded, InReach, Beyond, Answers, Computes, IsGrid, IsQuotient, parts}
 use Rattle.numbers.specs.Steps.{Steps, evenly}
-use Rattle.numbers.proofs.Integers.{mul-le, mul-split, times-lt}
+use Rattle.numbers.proofs.Integers.{mul-le, mul-split, neg-left, times-lt}
 use Rattle.numbers.proofs.Orders.{alike, ≤ᶠ-refl}
 use Rattle.numbers.proofs.Quotients.{floor, stays-within}
 use Rattle.numbers.proofs.Roundings.{by-quotient, rounded-same, parted, computes-both}
@@ -56,17 +57,35 @@ module _ {V : Type 0} (S : Steps) (counts : V → ℤ) (within : (v : V) → nat
     computes = computes-both (evenly S counts) negative computes;
   }
 
-  -- ---- n/d steps, within the reach and beyond it
+-- n/d steps, within the reach and beyond it
+module _ {V : Type 0} (S : Steps) (counts : V → ℤ) where
+  -- minus the top, times d
+  least : (d : ℕ) → negℤ (pos (S .most)) *ℤ pos d ≡ negℤ (pos (S .most * d))
+  least d = neg-left (pos (S .most)) (pos d)
 
-  pub steps-answered : (to : Rounding) (n : ℤ) (d : ℕ) (h : 0 < S .per-one * d) (v : V) → (negℤ (pos (S .most)) *ℤ pos d) ≤ℤ n → n ≤ℤ (pos (S .most) *ℤ pos d) → IsQuotient to n d (counts v) →
+  pub steps-answered : (to : Rounding) (n : ℤ) (d : ℕ) (h : 0 < S .per-one * d) (v : V) → natAbs n ≤ S .most * d → IsQuotient to n d (counts v) →
       Answers (evenly S counts) to (over (S .per-one * d) h n) (Ok v)
-  steps-answered to n d h v low high q = (
-    (record { at-most = rw (mul-split (negℤ (pos (S .most))) (S .per-one) d) (mul-le _ _ (S .per-one) low) }, record { at-most = rw (mul-split (pos (S .most)) (S .per-one) d) (mul-le _ _ (S .per-one) high) }),
-    by-quotient counts (S .per-one) (S .some) to n d h v q,
-  )
+  steps-answered to n d h v size q =
+      let low : (negℤ (pos (S .most)) *ℤ pos d) ≤ℤ n = rw (least d) (omega (arith, ints)) in
+      let high : n ≤ℤ (pos (S .most) *ℤ pos d) = omega (arith, ints) in (
+        (record { at-most = rw (mul-split (negℤ (pos (S .most))) (S .per-one) d) (mul-le _ _ (S .per-one) low) }, record { at-most = rw (mul-split (pos (S .most)) (S .per-one) d) (mul-le _ _ (S .per-one) high) }),
+        by-quotient counts (S .per-one) (S .some) to n d h v q,
+      )
 
-  pub steps-below : (n : ℤ) (d : ℕ) (h : 0 < S .per-one * d) → n <ℤ (negℤ (pos (S .most)) *ℤ pos d) → Beyond (evenly S counts) (over (S .per-one * d) h n)
-  steps-below n d h low = inl (record { below = rw (mul-split (negℤ (pos (S .most))) (S .per-one) d) (times-lt (pos (S .per-one)) (omega (arith, ints, S .some)) low) })
+  pub steps-beyond : (n : ℤ) (d : ℕ) (h : 0 < S .per-one * d) → S .most * d < natAbs n → Beyond (evenly S counts) (over (S .per-one * d) h n)
+  steps-beyond n d h size = by-ltZ n (pos 0) (λ l. inl (record { below = below l })) (λ l. inr (record { below = above l }))
+    where
+      step : pos 0 <ℤ pos (S .per-one)
+      step = omega (arith, ints, S .some)
 
-  pub steps-above : (n : ℤ) (d : ℕ) (h : 0 < S .per-one * d) → (pos (S .most) *ℤ pos d) <ℤ n → Beyond (evenly S counts) (over (S .per-one * d) h n)
-  steps-above n d h high = inr (record { below = rw (mul-split (pos (S .most)) (S .per-one) d) (times-lt (pos (S .per-one)) (omega (arith, ints, S .some)) high) })
+      below : n <ℤ pos 0 → (n *ℤ pos (S .per-one)) <ℤ (negℤ (pos (S .most)) *ℤ pos (S .per-one * d))
+      below l = rw (mul-split (negℤ (pos (S .most))) (S .per-one) d, least d) (times-lt {a = n} {b = negℤ (pos (S .most * d))} (pos (S .per-one)) step (omega (arith, ints)))
+
+      above : pos 0 ≤ℤ n → (pos (S .most) *ℤ pos (S .per-one * d)) <ℤ (n *ℤ pos (S .per-one))
+      above l = rw (mul-split (pos (S .most)) (S .per-one) d) (times-lt {a = pos (S .most) *ℤ pos d} {b = n} (pos (S .per-one)) step (omega (arith, ints)))
+
+  -- the quotient lies within the top
+  pub steps-within : (to : Rounding) (n k : ℤ) (d : ℕ) → 0 < d → natAbs n ≤ S .most * d → IsQuotient to n d k → natAbs k ≤ S .most
+  steps-within to n k d p size q =
+      let inside = stays-within to n k d (S .most) p q (rw (least d) (omega (arith, ints))) (omega (arith, ints)) in
+      omega (arith, ints)

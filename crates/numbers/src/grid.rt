@@ -2,7 +2,7 @@
 ghost use mathlib.Core.Path.{_≡_};
 ghost use Rattle.std.specs.Options.{Cases as BySome};
 ghost use Rattle.std.specs.Orderings.{Decides};
-ghost use Rattle.numbers.specs.Fractions.{zeroᶠ, _≤ᶠ_, _≈ᶠ_, thousandths, -ᶠ_, _+ᶠ_, _*ᶠ_};
+ghost use Rattle.numbers.specs.Fractions.{_≤ᶠ_, _≈ᶠ_, thousandths, -ᶠ_, _+ᶠ_, _*ᶠ_};
 ghost use Rattle.numbers.specs.Grids.{Gauge, IsRounded, IsGrid, Answers, Divides, Few};
 
 // Down is to the greatest value not above, up to the least not below.
@@ -78,11 +78,4 @@ pub trait Form: Grid {
 
     fn divide(self, other: Self, rounding: Rounding) -> Result<Self, Refusal>
         ensures { λ r. ⌜ Divides (Self·Grid .gauge) rounding (Self·Grid .gauge .meaning self) (Self·Grid .gauge .meaning other) r ⌝ };
-}
-
-// The value that means zero.
-pub fn zero<G: Grid>() -> G
-    ensures { λ r. ⌜ G·Grid .gauge .meaning r ≈ᶠ zeroᶠ ⌝ }
-{
-    G::take(Thousandths::ZERO, Rounding::Down)
 }

@@ -10,7 +10,6 @@ pub use grid::Grid;
 pub use grid::Refusal;
 pub use grid::Rounding;
 pub use grid::Thousandths;
-pub use grid::zero;
 pub use mil::Mil;
 pub use mil::MilSteps;
 pub use sig::Sig;

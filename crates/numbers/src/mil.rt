@@ -39,6 +39,6 @@ impl Mil {
     pub fn thousandths(self) -> i64
         ensures { λ r. ⌜ r ≡ self .count ⌝ }
     {
-        self.count
+        self.count()
     }
 }

@@ -2,8 +2,9 @@
 ghost use mathlib.Core.Path.{_≡_};
 ghost use Prim.Native.Nat.{_≤_, _<_, _*_, _^_};
 ghost use lib.IntN.{ℤ, pos, natAbs, _*ℤ_};
-ghost use Rattle.numbers.specs.Fractions.{over, millionths};
-ghost use Rattle.numbers.specs.Grids.{Gauge, IsRounded, Answers};
+ghost use Rattle.std.specs.Orderings.{Decides};
+ghost use Rattle.numbers.specs.Fractions.{_≤ᶠ_, over, thousandths, millionths, _+ᶠ_, _*ᶠ_};
+ghost use Rattle.numbers.specs.Grids.{Gauge, IsRounded, Answers, Divides};
 ghost use Rattle.numbers.specs.Digits.{digits};
 use crate::grid::Form;
 use crate::grid::Grid;
@@ -24,8 +25,8 @@ pub struct Sig {
 }
 
 impl Sig {
-    // The value in millionths, exactly.
-    pub fn millionths(self) -> i64
+    // The value in millionths.
+    fn count(self) -> i64
         ensures value { λ r. ⌜ r ≡ self .mantissa *ℤ pos (10 ^ self .exponent) ⌝ }
         ensures bound { λ r. ⌜ natAbs r ≤ 999999000000000000 ⌝ }
     {
@@ -60,13 +61,63 @@ impl Sig {
         }
         Ok(Sig::nearest(wide_quotient(n, d, rounding) as i64, rounding))
     }
+
+    fn ordered(self, other: Sig) -> bool
+        ensures { λ r. ⌜ Decides r (digits (λ (v : Sig). v .mantissa) (λ (v : Sig). v .exponent) .meaning self ≤ᶠ digits (λ (v : Sig). v .mantissa) (λ (v : Sig). v .exponent) .meaning other) ⌝ }
+    {
+        self.count() <= other.count()
+    }
+
+    fn taken(given: Thousandths, rounding: Rounding) -> Sig
+        ensures { λ r. ⌜ IsRounded (digits (λ (v : Sig). v .mantissa) (λ (v : Sig). v .exponent) .meaning) rounding (thousandths (given .count)) r ⌝ }
+    {
+        Sig::nearest(given.count() as i64 * 1000, rounding)
+    }
+
+    fn shown(self, rounding: Rounding) -> i64
+        ensures { λ r. ⌜ IsRounded thousandths rounding (digits (λ (v : Sig). v .mantissa) (λ (v : Sig). v .exponent) .meaning self) r ⌝ }
+    {
+        quotient(self.count(), 1000, rounding)
+    }
+
+    fn sum(self, other: Sig, rounding: Rounding) -> Result<Sig, Refusal>
+        ensures { λ r. ⌜ Answers (digits (λ (v : Sig). v .mantissa) (λ (v : Sig). v .exponent)) rounding (digits (λ (v : Sig). v .mantissa) (λ (v : Sig). v .exponent) .meaning self +ᶠ digits (λ (v : Sig). v .mantissa) (λ (v : Sig). v .exponent) .meaning other) r ⌝ }
+    {
+        let sum = self.count() + other.count();
+        Sig::rounded(sum as i128, 1, rounding)
+    }
+
+    fn product(self, other: Sig, rounding: Rounding) -> Result<Sig, Refusal>
+        ensures { λ r. ⌜ Answers (digits (λ (v : Sig). v .mantissa) (λ (v : Sig). v .exponent)) rounding (digits (λ (v : Sig). v .mantissa) (λ (v : Sig). v .exponent) .meaning self *ᶠ digits (λ (v : Sig). v .mantissa) (λ (v : Sig). v .exponent) .meaning other) r ⌝ }
+    {
+        let product = self.count() as i128 * other.count() as i128;
+        Sig::rounded(product, 1_000_000, rounding)
+    }
+
+    fn ratio(self, other: Sig, rounding: Rounding) -> Result<Sig, Refusal>
+        ensures { λ r. ⌜ Divides (digits (λ (v : Sig). v .mantissa) (λ (v : Sig). v .exponent)) rounding (digits (λ (v : Sig). v .mantissa) (λ (v : Sig). v .exponent) .meaning self) (digits (λ (v : Sig). v .mantissa) (λ (v : Sig). v .exponent) .meaning other) r ⌝ }
+    {
+        let divisor = other.count();
+        if divisor == 0 {
+            return Err(Refusal::ZeroDivisor);
+        }
+        let n = signed_by(self.count(), divisor) as i128 * 1_000_000;
+        Sig::rounded(n, divisor.unsigned_abs(), rounding)
+    }
+
+    // The value in millionths, exactly.
+    pub fn millionths(self) -> i64
+        ensures { λ r. ⌜ r ≡ self .mantissa *ℤ pos (10 ^ self .exponent) ⌝ }
+    {
+        Sig::count(self)
+    }
 }
 
 pub impl Grid for Sig as SigGrid {
     ghost gauge = { digits (λ v. v .mantissa) (λ v. v .exponent) };
 
     fn at_most(self, other: Sig) -> bool {
-        self.millionths() <= other.millionths()
+        self.ordered(other)
     }
 
     fn negated(self) -> Sig {
@@ -77,31 +128,24 @@ pub impl Grid for Sig as SigGrid {
     }
 
     fn take(given: Thousandths, rounding: Rounding) -> Sig {
-        Sig::nearest(given.count() as i64 * 1000, rounding)
+        Sig::taken(given, rounding)
     }
 
     fn show(self, rounding: Rounding) -> i64 {
-        quotient(self.millionths(), 1000, rounding)
+        self.shown(rounding)
     }
 }
 
 pub impl Form for Sig as SigForm {
     fn add(self, other: Sig, rounding: Rounding) -> Result<Sig, Refusal> {
-        let sum = self.millionths() + other.millionths();
-        Sig::rounded(sum as i128, 1, rounding)
+        self.sum(other, rounding)
     }
 
     fn multiply(self, other: Sig, rounding: Rounding) -> Result<Sig, Refusal> {
-        let product = self.millionths() as i128 * other.millionths() as i128;
-        Sig::rounded(product, 1_000_000, rounding)
+        self.product(other, rounding)
     }
 
     fn divide(self, other: Sig, rounding: Rounding) -> Result<Sig, Refusal> {
-        let divisor = other.millionths();
-        if divisor == 0 {
-            return Err(Refusal::ZeroDivisor);
-        }
-        let n = signed_by(self.millionths(), divisor) as i128 * 1_000_000;
-        Sig::rounded(n, divisor.unsigned_abs(), rounding)
+        self.ratio(other, rounding)
     }
 }

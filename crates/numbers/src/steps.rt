@@ -2,19 +2,21 @@
 ghost use mathlib.Core.Path.{_≡_};
 ghost use Prim.Native.Nat.{_<_, _≤_, _*_, _^_};
 ghost use lib.IntN.{ℤ, pos, natAbs};
-ghost use Rattle.numbers.specs.Fractions.{over};
-ghost use Rattle.numbers.specs.Grids.{Gauge, Answers};
+ghost use Rattle.std.specs.Orderings.{Decides};
+ghost use Rattle.numbers.specs.Fractions.{_≤ᶠ_, _≈ᶠ_, over, thousandths, -ᶠ_, _+ᶠ_, _*ᶠ_};
+ghost use Rattle.numbers.specs.Grids.{Gauge, IsRounded, Answers, Divides};
 ghost use Rattle.numbers.specs.Steps.{Steps, evenly};
 use crate::grid::Form;
 use crate::grid::Grid;
 use crate::grid::Refusal;
 use crate::grid::Rounding;
 use crate::grid::Thousandths;
+use crate::whole::exceeds;
 use crate::whole::quotient;
 use crate::whole::signed_by;
 
 // A value that counts steps. All else of a grid and a form follows from these, below.
-pub trait EqualSteps: Copy {
+pub(crate) trait EqualSteps: Copy {
     ghost steps: { Steps };
 
     ghost counts: { Self → ℤ };
@@ -46,48 +48,90 @@ fn rounded<S: EqualSteps>(n: i64, d: u32, rounding: Rounding) -> Result<S, Refus
     requires turns { ⌜ natAbs n < 2 ^ 63 ⌝ }
     ensures { λ r. ⌜ ((h : 0 < S·EqualSteps .steps .per-one * d) → Answers (evenly (S·EqualSteps .steps) (S·EqualSteps .counts)) rounding (over (S·EqualSteps .steps .per-one * d) h n) r) ⌝ }
 {
-    let reach = S::most() as i64 * d as i64;
-    if n < -reach || reach < n {
+    if exceeds(n, S::most() as u64 * d as u64) {
         return Err(Refusal::BeyondReach);
     }
     Ok(S::of(quotient(n, d, rounding)))
+}
+
+fn ordered<S: EqualSteps>(left: S, right: S) -> bool
+    ensures { λ r. ⌜ Decides r (evenly (S·EqualSteps .steps) (S·EqualSteps .counts) .meaning left ≤ᶠ evenly (S·EqualSteps .steps) (S·EqualSteps .counts) .meaning right) ⌝ }
+{
+    left.count() <= right.count()
+}
+
+fn turned<S: EqualSteps>(value: S) -> S
+    ensures { λ r. ⌜ evenly (S·EqualSteps .steps) (S·EqualSteps .counts) .meaning r ≈ᶠ -ᶠ_ (evenly (S·EqualSteps .steps) (S·EqualSteps .counts) .meaning value) ⌝ }
+{
+    S::of(-value.count())
+}
+
+fn taken<S: EqualSteps>(given: Thousandths, rounding: Rounding) -> S
+    ensures { λ r. ⌜ IsRounded (evenly (S·EqualSteps .steps) (S·EqualSteps .counts) .meaning) rounding (thousandths (given .count)) r ⌝ }
+{
+    let steps = given.count() as i64 * S::per_one() as i64;
+    S::of(quotient(steps, 1000, rounding))
+}
+
+fn shown<S: EqualSteps>(value: S, rounding: Rounding) -> i64
+    ensures { λ r. ⌜ IsRounded thousandths rounding (evenly (S·EqualSteps .steps) (S·EqualSteps .counts) .meaning value) r ⌝ }
+{
+    quotient(value.count() * 1000, S::per_one(), rounding)
+}
+
+fn sum<S: EqualSteps>(left: S, right: S, rounding: Rounding) -> Result<S, Refusal>
+    ensures { λ r. ⌜ Answers (evenly (S·EqualSteps .steps) (S·EqualSteps .counts)) rounding (evenly (S·EqualSteps .steps) (S·EqualSteps .counts) .meaning left +ᶠ evenly (S·EqualSteps .steps) (S·EqualSteps .counts) .meaning right) r ⌝ }
+{
+    rounded(left.count() + right.count(), 1, rounding)
+}
+
+fn product<S: EqualSteps>(left: S, right: S, rounding: Rounding) -> Result<S, Refusal>
+    ensures { λ r. ⌜ Answers (evenly (S·EqualSteps .steps) (S·EqualSteps .counts)) rounding (evenly (S·EqualSteps .steps) (S·EqualSteps .counts) .meaning left *ᶠ evenly (S·EqualSteps .steps) (S·EqualSteps .counts) .meaning right) r ⌝ }
+{
+    rounded(left.count() * right.count(), S::per_one(), rounding)
+}
+
+fn ratio<S: EqualSteps>(left: S, right: S, rounding: Rounding) -> Result<S, Refusal>
+    ensures { λ r. ⌜ Divides (evenly (S·EqualSteps .steps) (S·EqualSteps .counts)) rounding (evenly (S·EqualSteps .steps) (S·EqualSteps .counts) .meaning left) (evenly (S·EqualSteps .steps) (S·EqualSteps .counts) .meaning right) r ⌝ }
+{
+    let divisor = right.count();
+    if divisor == 0 {
+        return Err(Refusal::ZeroDivisor);
+    }
+    let n = signed_by(left.count(), divisor) * S::per_one() as i64;
+    rounded(n, divisor.unsigned_abs() as u32, rounding)
 }
 
 pub impl<S: EqualSteps> Grid for S as EqualGrid {
     ghost gauge = { evenly (S·EqualSteps .steps) (S·EqualSteps .counts) };
 
     fn at_most(self, other: S) -> bool {
-        self.count() <= other.count()
+        ordered(self, other)
     }
 
     fn negated(self) -> S {
-        S::of(-self.count())
+        turned(self)
     }
 
     fn take(given: Thousandths, rounding: Rounding) -> S {
-        S::of(quotient(given.count() as i64 * S::per_one() as i64, 1000, rounding))
+        taken(given, rounding)
     }
 
     fn show(self, rounding: Rounding) -> i64 {
-        quotient(self.count() * 1000, S::per_one(), rounding)
+        shown(self, rounding)
     }
 }
 
 pub impl<S: EqualSteps> Form for S as EqualForm {
     fn add(self, other: S, rounding: Rounding) -> Result<S, Refusal> {
-        rounded(self.count() + other.count(), 1, rounding)
+        sum(self, other, rounding)
     }
 
     fn multiply(self, other: S, rounding: Rounding) -> Result<S, Refusal> {
-        rounded(self.count() * other.count(), S::per_one(), rounding)
+        product(self, other, rounding)
     }
 
     fn divide(self, other: S, rounding: Rounding) -> Result<S, Refusal> {
-        let divisor = other.count();
-        if divisor == 0 {
-            return Err(Refusal::ZeroDivisor);
-        }
-        let n = signed_by(self.count(), divisor) * S::per_one() as i64;
-        rounded(n, divisor.unsigned_abs() as u32, rounding)
+        ratio(self, other, rounding)
     }
 }

@@ -156,6 +156,16 @@ abbrev pub outer : Rounding → Fraction → Fraction → Fraction
 outer Down p q = minᶠ p q
 outer Up p q = maxᶠ p q
 
+-- of two values the one that is farther out that way
+abbrev pub outermost : {V : Type 0} → Gauge V → Rounding → V → V → V
+outermost G Down x y = cond (leᶠ (G .meaning x) (G .meaning y)) x y
+outermost G Up x y = cond (leᶠ (G .meaning x) (G .meaning y)) y x
+
+-- the sign that takes the lesser ends, or the greater
+abbrev pub bound : Rounding → Sign
+bound Down = Least
+bound Up = Greatest
+
 -- a product or a quotient
 abbrev pub paired : Bool → Fraction → Fraction → Fraction
 paired true p q = p ÷ᶠ q

@@ -1,7 +1,8 @@
 -- Verdicts over two ranges: left at most right, or left at most the root of right. Assumes nothing.
 use mathlib.Core.Path.{_≡_}
 use mathlib.Core.Logic.{_⊎_}
-use mathlib.Core.Bool.{Bool, not, _&&_, _||_, cond}
+use mathlib.Core.Bool.{Bool, true, not, _&&_, _||_, cond}
+use Rattle.std.specs.Results.{isOk}
 use Rattle.std.specs.declared.result.Result.{Result}
 use Rattle.std.specs.declared.result.Result.the-variants.{Ok, Err}
 use Rattle.numbers.specs.declared.grid.Rounding.{Rounding}
@@ -116,5 +117,4 @@ pub record Verdict-promise {V : Type 0} (G : Gauge V) (k : Kind) (a b : Interval
 
 -- the square of x, wanted only where x is above zero
 abbrev pub SquareOf : {V : Type 0} → Gauge V → Rounding → Fraction → Result V Refusal → Type 0
-SquareOf G to x (Ok v) = zeroᶠ <ᶠ x → Answers G to (x *ᶠ x) (Ok v)
-SquareOf G to x (Err e) = (zeroᶠ <ᶠ x) × Answers G to (x *ᶠ x) (Err e)
+SquareOf G to x o = (zeroᶠ <ᶠ x → Answers G to (x *ᶠ x) o) × ((zeroᶠ <ᶠ x → ⊥) → isOk o ≡ true)

@@ -5,13 +5,13 @@ ghost use mathlib.Core.Bool.{true};
 ghost use Rattle.numbers.specs.Fractions.{zeroᶠ, _≈ᶠ_, _≤ᶠ_, _-ᶠ_, thousandths};
 ghost use Rattle.numbers.specs.Grids.{Answers};
 ghost use Rattle.std.specs.declared.result.Result.the-variants.{Ok};
-ghost use Rattle.ranges.specs.Ranges.{span, outer, paired, corners, Corner, Covers, HoldsZero, IsStep, Step-promise};
+ghost use Rattle.ranges.specs.Ranges.{span, outermost, bound, paired, corners, Corner, Covers, HoldsZero, IsStep, Step-promise};
 ghost use Rattle.ranges.specs.declared.range.Sign.the-variants.{Plus, Minus, Times, Over, Least, Greatest};
 use numbers::Form;
+use numbers::Grid;
 use numbers::Refusal;
 use numbers::Rounding;
 use numbers::Thousandths;
-use numbers::zero;
 
 #[derive(Clone, Copy)]
 pub struct Range<F> {
@@ -30,6 +30,13 @@ pub enum Sign {
     Greatest,
 }
 
+// The value that means zero.
+pub(crate) fn zero<F: Grid>() -> F
+    ensures { λ r. ⌜ F·Grid .gauge .meaning r ≈ᶠ zeroᶠ ⌝ }
+{
+    F::take(Thousandths::ZERO, Rounding::Down)
+}
+
 // x minus y.
 fn minus<F: Form>(x: F, y: F, rounding: Rounding) -> Result<F, Refusal>
     ensures { λ r. ⌜ Answers (F·Grid .gauge) rounding (F·Grid .gauge .meaning x -ᶠ F·Grid .gauge .meaning y) r ⌝ }
@@ -39,7 +46,7 @@ fn minus<F: Form>(x: F, y: F, rounding: Rounding) -> Result<F, Refusal>
 
 // The lesser of two values, or the greater where rounding is up.
 fn extreme<F: Form>(x: F, y: F, rounding: Rounding) -> F
-    ensures { λ r. ⌜ F·Grid .gauge .meaning r ≈ᶠ outer rounding (F·Grid .gauge .meaning x) (F·Grid .gauge .meaning y) ⌝ }
+    ensures { λ r. ⌜ r ≡ outermost (F·Grid .gauge) rounding x y ⌝ }
 {
     let ordered = x.at_most(y);
     match rounding {
@@ -66,6 +73,15 @@ fn pairing<F: Form>(over: bool, x: F, y: F, rounding: Rounding) -> Result<F, Ref
     } else {
         x.multiply(y, rounding)
     }
+}
+
+// The least of four values, or the greatest where rounding is up.
+fn extreme_of_four<F: Form>(ll: F, lh: F, hl: F, hh: F, rounding: Rounding) -> F
+    ensures { λ r. ⌜ r ≡ outermost (F·Grid .gauge) rounding (outermost (F·Grid .gauge) rounding ll lh) (outermost (F·Grid .gauge) rounding hl hh) ⌝ }
+{
+    let low_side = extreme(ll, lh, rounding);
+    let high_side = extreme(hl, hh, rounding);
+    extreme(low_side, high_side, rounding)
 }
 
 impl<F: Form> Range<F> {
@@ -107,11 +123,7 @@ impl<F: Form> Range<F> {
         let lh = pairing(over, self.low, other.high, rounding)?;
         let hl = pairing(over, self.high, other.low, rounding)?;
         let hh = pairing(over, self.high, other.high, rounding)?;
-        Ok(extreme(
-            extreme(ll, lh, rounding),
-            extreme(hl, hh, rounding),
-            rounding,
-        ))
+        Ok(extreme_of_four(ll, lh, hl, hh, rounding))
     }
 
     pub fn product(self, other: Range<F>) -> Result<Range<F>, Refusal>
@@ -140,28 +152,31 @@ impl<F: Form> Range<F> {
         Ok(Range { low, high })
     }
 
+    // The lesser low and the lesser high, or the greater where rounding is up.
+    fn extremes(self, other: Range<F>, rounding: Rounding) -> Range<F>
+        ensures { λ r. ⌜ IsStep (F·Grid .gauge) (bound rounding) (span (F·Grid .gauge) self) (span (F·Grid .gauge) other) (Ok r) ⌝ }
+    {
+        Range {
+            low: extreme(self.low, other.low, rounding),
+            high: extreme(self.high, other.high, rounding),
+        }
+    }
+
     // The lesser low and the lesser high.
     pub fn min(self, other: Range<F>) -> Range<F>
         ensures { λ r. ⌜ IsStep (F·Grid .gauge) Least (span (F·Grid .gauge) self) (span (F·Grid .gauge) other) (Ok r) ⌝ }
     {
-        Range {
-            low: extreme(self.low, other.low, Rounding::Down),
-            high: extreme(self.high, other.high, Rounding::Down),
-        }
+        self.extremes(other, Rounding::Down)
     }
 
     // The greater low and the greater high.
     pub fn max(self, other: Range<F>) -> Range<F>
         ensures { λ r. ⌜ IsStep (F·Grid .gauge) Greatest (span (F·Grid .gauge) self) (span (F·Grid .gauge) other) (Ok r) ⌝ }
     {
-        Range {
-            low: extreme(self.low, other.low, Rounding::Up),
-            high: extreme(self.high, other.high, Rounding::Up),
-        }
+        self.extremes(other, Rounding::Up)
     }
 
-    // One step of a formula.
-    pub fn step(self, sign: Sign, other: Range<F>) -> Result<Range<F>, Refusal>
+    fn stepped(self, sign: Sign, other: Range<F>) -> Result<Range<F>, Refusal>
         ensures { λ r. ⌜ Step-promise (F·Grid .gauge) sign (span (F·Grid .gauge) self) (span (F·Grid .gauge) other) r ⌝ }
     {
         match sign {
@@ -172,5 +187,12 @@ impl<F: Form> Range<F> {
             Sign::Least => Ok(self.min(other)),
             Sign::Greatest => Ok(self.max(other)),
         }
+    }
+
+    // One step of a formula.
+    pub fn step(self, sign: Sign, other: Range<F>) -> Result<Range<F>, Refusal>
+        ensures { λ r. ⌜ Step-promise (F·Grid .gauge) sign (span (F·Grid .gauge) self) (span (F·Grid .gauge) other) r ⌝ }
+    {
+        self.stepped(sign, other)
     }
 }

@@ -2,14 +2,15 @@
 ghost use mathlib.Core.Path.{_≡_};
 ghost use Rattle.std.specs.Orderings.{Decides};
 ghost use Rattle.std.specs.declared.result.Result.the-variants.{Ok};
+ghost use Rattle.numbers.specs.Fractions.{zeroᶠ, _<ᶠ_};
 ghost use Rattle.ranges.specs.Ranges.{span};
 ghost use Rattle.ranges.specs.Verdicts.{SquareOf, RootHolds, RootBreaks, Judges, Verdict-promise};
 ghost use Rattle.ranges.specs.declared.verdict.Kind.the-variants.{Plain, Root};
 use crate::range::Range;
+use crate::range::zero;
 use numbers::Form;
 use numbers::Refusal;
 use numbers::Rounding;
-use numbers::zero;
 
 // Left at most right, or left at most the root of right.
 #[derive(Clone, Copy)]
@@ -25,15 +26,21 @@ pub enum Verdict {
     Open = 3,
 }
 
-// x squared, where x is above zero.
+// Whether x is above zero.
+fn above_zero<F: Form>(x: F) -> bool
+    ensures { λ r. ⌜ Decides r (zeroᶠ <ᶠ F·Grid .gauge .meaning x) ⌝ }
+{
+    !x.at_most(zero::<F>())
+}
+
+// x squared, wanted only where x is above zero: else it is never refused.
 fn square<F: Form>(x: F, rounding: Rounding) -> Result<F, Refusal>
     ensures { λ r. ⌜ SquareOf (F·Grid .gauge) rounding (F·Grid .gauge .meaning x) r ⌝ }
 {
-    let zero = zero::<F>();
-    if x.at_most(zero) {
-        Ok(zero)
-    } else {
+    if above_zero(x) {
         x.multiply(x, rounding)
+    } else {
+        Ok(zero())
     }
 }
 
@@ -77,12 +84,18 @@ fn judge_root<F: Form>(left: Range<F>, right: Range<F>) -> Result<Verdict, Refus
     Ok(Verdict::Open)
 }
 
-// The verdict over a left and a right range.
-pub fn judge<F: Form>(kind: Kind, left: Range<F>, right: Range<F>) -> Result<Verdict, Refusal>
+fn judged<F: Form>(kind: Kind, left: Range<F>, right: Range<F>) -> Result<Verdict, Refusal>
     ensures { λ r. ⌜ Verdict-promise (F·Grid .gauge) kind (span (F·Grid .gauge) left) (span (F·Grid .gauge) right) r ⌝ }
 {
     match kind {
         Kind::Plain => Ok(judge_plain(left, right)),
         Kind::Root => judge_root(left, right),
     }
+}
+
+// The verdict over a left and a right range.
+pub fn judge<F: Form>(kind: Kind, left: Range<F>, right: Range<F>) -> Result<Verdict, Refusal>
+    ensures { λ r. ⌜ Verdict-promise (F·Grid .gauge) kind (span (F·Grid .gauge) left) (span (F·Grid .gauge) right) r ⌝ }
+{
+    judged(kind, left, right)
 }

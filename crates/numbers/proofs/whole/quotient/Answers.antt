@@ -1,4 +1,4 @@
-use mathlib.Core.Path.{_≡_}
+use mathlib.Core.Path.{_≡_, refl}
 use native.Mathlib.Omega.{arith}
 use borrow.Author.Differences.{ints}
 use mir.Syntax.{w64}
@@ -13,15 +13,13 @@ back z = toZ w64 (ofZ w64 z)
 
 pub returns-in-Down : need.returns-in-Down
 returns-in-Down c =
-    is-floor (c .args .n) _ (c .div-euclid .result) (back (c .args .n)) (toZ w64 (c .args .d)) (c .args .d)
-    (c .in-Down .is) (c .pre .positive) (c .div-euclid .ensures) (omega (arith, ints)) (omega (arith, ints)) (omega (arith, ints))
+    is-floor (c .args .n) _ (c .floor .result) (back (c .args .n)) (pos (c .args .d)) (c .args .d)
+    (c .in-Down .is) (c .pre .positive) (c .floor .ensures) (omega (arith, ints)) refl (omega (arith, ints))
 
 pub returns-in-Up : need.returns-in-Up
 returns-in-Up c =
     let m : ℤ = back (pos 0 -ℤ back (c .args .n)) in
-    let e : ℤ = toZ w64 (c .args .d) in
     let same : m ≡ negℤ (c .args .n) = omega (arith, ints) in
-    let divisor : e ≡ pos (c .args .d) = omega (arith, ints) in
-    is-ceiling (c .args .n) _ (c .div-euclid-in-Up .result) m e (c .args .d)
-    (c .in-Up .is) (c .pre .positive) (c .div-euclid-in-Up .ensures) same divisor
-    (omega (arith, ints, shrinks (c .div-euclid-in-Up .result) m e (negℤ (c .args .n)) (c .args .d) (c .div-euclid-in-Up .ensures) same divisor))
+    is-ceiling (c .args .n) _ (c .floor-in-Up .result) m (pos (c .args .d)) (c .args .d)
+    (c .in-Up .is) (c .pre .positive) (c .floor-in-Up .ensures) same refl
+    (omega (arith, ints, shrinks (c .floor-in-Up .result) m (pos (c .args .d)) (negℤ (c .args .n)) (c .args .d) (c .floor-in-Up .ensures) same refl))
