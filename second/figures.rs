@@ -1,5 +1,5 @@
-// The figures of the program `figures`, worked a second time in plain Rust by another way: exact fractions of i128,
-// and for each rounding a search through the grid's own description. Build: rustc -O second/figures.rs -o target/second
+// What the programs `figures` and, told `edges`, `edges` print, worked a second time in plain Rust by another way: exact fractions of i128,
+// and for each rounding the best over all the steps that the grid has.
 use std::cmp::Ordering;
 
 #[derive(Clone, Copy)]
@@ -150,39 +150,25 @@ fn chain(form: &Form, first: (&str, i128, i128), rest: &[(char, &str, i128, i128
     range
 }
 
-// A value of sig, in thousandths of one at a power of ten.
+// A value of sig.
 fn power(mantissa: i128, exponent: i32) -> Frac {
     let ten = 10i128.pow(exponent.unsigned_abs());
     if exponent < 0 { frac(mantissa, ten) } else { frac(mantissa * ten, 1) }
 }
 
-// Results of sig at its edges, as rows for a test's table: two values, the sign between them, and the range in millionths.
+// Works the lines of the program `edges`.
 fn edges() {
     let sig = &forms()[1];
-    let top = (999_999, 6);
-    let rows: Vec<((i128, i32), char, (i128, i32))> = vec![
-        (top, '+', (0, 0)), (top, '+', (1, -6)), (top, '+', (1, 6)), (top, '-', (1, 0)), (top, '-', (1, -6)),
-        ((-999_999, 6), '-', (0, 0)), ((-999_999, 6), '-', (1, -6)), ((-999_999, 6), '-', (1, 6)), ((-999_999, 6), '+', (1, 0)),
-        ((999_999, 5), '+', (1, 5)), ((999_999, 5), '+', (1, 0)), ((-999_999, 5), '-', (1, 5)), ((-999_999, 5), '-', (1, 0)),
-        ((999_999, 0), '+', (1, 0)), ((999_999, 0), '+', (5, -1)), ((999_999, 0), '+', (1, -6)),
-        ((-999_999, 0), '-', (1, 0)), ((-999_999, 0), '-', (5, -1)), ((-999_999, 0), '-', (1, -6)),
-        ((999_999, -6), '+', (1, -6)), ((-999_999, -6), '-', (1, -6)), ((999_999, -6), '+', (999_999, 6)),
-        ((999_999, 0), '*', (999_999, 0)), ((999_999, 0), '*', (-999_999, 0)), (top, '*', (1, 0)), (top, '*', (2, 0)), (top, '*', (999_999, -6)),
-        ((999_999, 3), '*', (1, 3)), ((1, -6), '*', (5, -1)), ((-1, -6), '*', (5, -1)), ((1, -6), '*', (1, -6)),
-        ((1, 0), '/', (3, 0)), ((-1, 0), '/', (3, 0)), ((1, 0), '/', (999_999, 0)), ((1, -6), '/', (999_999, 6)), ((-1, -6), '/', (999_999, 6)),
-        (top, '/', (999_999, -6)), (top, '/', (1, 0)), (top, '/', (-2, 0)), ((999_998, 6), '/', (999_999, -6)),
-        ((1, 0), '/', (0, 0)), ((0, 0), '/', (0, 0)), ((0, 0), '/', (-7, 0)),
-    ];
-    for ((m, k), sign, (n, l)) in rows {
-        let (a, b) = (power(m, k), power(n, l));
-        let name = match sign { '+' => "Plus", '-' => "Minus", '*' => "Times", _ => "Over" };
+    for line in std::io::stdin().lines().map_while(Result::ok) {
+        let words: Vec<&str> = line.split_whitespace().collect();
+        let number = |i: usize| words[i].parse::<i32>().unwrap();
+        let a = power(number(0).into(), number(1));
+        let b = power(number(3).into(), number(4));
         let millionths = |q: Frac| q.0 * 1_000_000 / q.1;
-        let outcome = match sig.step((a, a), sign, (b, b)) {
-            Ok((low, high)) => format!("Ok(({}, {}))", millionths(low), millionths(high)),
-            Err(13) => "Err(Refusal::BeyondReach)".to_string(),
-            Err(_) => "Err(Refusal::ZeroDivisor)".to_string(),
-        };
-        println!("(({m}, {k}), Sign::{name}, ({n}, {l}), {outcome}),");
+        match sig.step((a, a), words[2].chars().next().unwrap(), (b, b)) {
+            Ok((low, high)) => println!("{line} = {} to {}", millionths(low), millionths(high)),
+            Err(number) => println!("{line} refused with {number}"),
+        }
     }
 }
 

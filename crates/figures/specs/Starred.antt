@@ -5,14 +5,14 @@ use lib.IntN.{ℤ, pos, negℤ}
 use Rattle.std.specs.declared.result.Result.{Result}
 use Rattle.std.specs.declared.result.Result.the-variants.{Ok, Err}
 use Rattle.numbers.specs.declared.grid.Refusal.{Refusal}
-use Rattle.numbers.specs.declared.grid.Refusal.the-variants.{BeyondReach, ZeroDivisor}
+use Rattle.numbers.specs.declared.grid.Refusal.the-variants.{BeyondReach}
 use Rattle.numbers.specs.Fractions.{millionths, _≈ᶠ_}
 use Rattle.ranges.specs.declared.range.Sign.{Sign}
-use Rattle.ranges.specs.declared.range.Sign.the-variants.{Plus, Minus, Times, Over, Least, Greatest}
+use Rattle.ranges.specs.declared.range.Sign.the-variants.{Minus, Times, Over}
 use Rattle.ranges.specs.declared.verdict.Kind.{Kind}
-use Rattle.ranges.specs.declared.verdict.Kind.the-variants.{Plain, Root}
+use Rattle.ranges.specs.declared.verdict.Kind.the-variants.{Root}
 use Rattle.ranges.specs.declared.verdict.Verdict.{Verdict}
-use Rattle.ranges.specs.declared.verdict.Verdict.the-variants.{Holds, Breaks, Open}
+use Rattle.ranges.specs.declared.verdict.Verdict.the-variants.{Holds}
 use Rattle.ranges.specs.Ranges.{Interval}
 use Rattle.figures.specs.declared.entry.FormName.{FormName}
 use Rattle.figures.specs.declared.entry.FormName.the-variants.{Mil, Sig}

@@ -1,18 +1,18 @@
 -- Forms of equal steps are grids. Assumes nothing.
-use mathlib.Core.Path.{_≡_, refl, sym, ap, _∙_, subst}
-use mathlib.Core.Logic.{_⊎_, inl, inr}
-use Prim.Native.Nat.{ℕ, _+_, _*_, _≤_, _<_}
+use mathlib.Core.Path.{_≡_, sym, subst}
+use mathlib.Core.Logic.{inl, inr}
+use Prim.Native.Nat.{ℕ, _*_, _≤_, _<_}
 use native.Mathlib.Omega.{arith}
 use native.Mathlib.Nat.{mul-pos}
 use borrow.Author.Differences.{ints}
-use lib.IntN.{ℤ, pos, negsuc, negℤ, natAbs, _+ℤ_, _-ℤ_, _*ℤ_}
+use lib.IntN.{ℤ, pos, negℤ, natAbs, _*ℤ_}
 use lib.Signed.{_≤ℤ_, _<ℤ_}
-use Rattle.std.specs.declared.result.Result.the-variants.{Ok, Err}
+use Rattle.std.specs.declared.result.Result.the-variants.{Ok}
 use Rattle.std.proofs.shelf.Signed.{by-ltZ}
 use Rattle.numbers.specs.declared.grid.Rounding.{Rounding}
 use Rattle.numbers.specs.declared.grid.Rounding.the-variants.{Down}
-use Rattle.numbers.specs.Fractions.{Fraction, _≤ᶠ_, _≈ᶠ_, over, whole, -ᶠ_}
-use Rattle.numbers.specs.Grids.{Gauge, IsRounded, InReach, Beyond, Answers, Computes, IsGrid, IsQuotient, parts}
+use Rattle.numbers.specs.Fractions.{_≤ᶠ_, _≈ᶠ_, over, -ᶠ_}
+use Rattle.numbers.specs.Grids.{InReach, Beyond, Answers, Computes, IsGrid, IsQuotient, parts}
 use Rattle.numbers.specs.Steps.{Steps, evenly}
 use Rattle.numbers.proofs.Integers.{mul-le, mul-split, neg-left, times-lt}
 use Rattle.numbers.proofs.Orders.{alike, ≤ᶠ-refl}

@@ -3,7 +3,7 @@ use mathlib.Core.Path.{_≡_, refl, sym, ap, _∙_, subst}
 use Prim.Native.Nat.{ℕ, zero, suc, _+_, _*_, _≤_, _<_}
 use native.Mathlib.Omega.{arith}
 use native.Mathlib.Nat.{mul-pos, mul-le-mul, mul-le-mul-right, le-of-mul-le-mul-right, lt-of-mul-lt-mul-right}
-use borrow.Author.Differences.{ints, up, down, le-out, lt-out, at-most-in, below-in, same-in, product-is, neg-is, sum-is}
+use borrow.Author.Differences.{ints, up, down, le-out, at-most-in, below-in, same-in, product-is, neg-is, sum-is}
 use lib.IntN.{ℤ, pos, negsuc, _+ℤ_, _*ℤ_, negℤ, natAbs, *ℤ-comm, +ℤ-assoc, +ℤ-comm}
 use lib.Dec.{ltb→lt, lt→ltb}
 use lib.Signed.{_≤ℤ_, _<ℤ_, ltZ-yes, clashℤ}
@@ -138,6 +138,3 @@ le-≤ h k = omega (arith, ints)
 
 pub cancel-le : (a b c : ℤ) → pos 0 <ℤ c → (a *ℤ c) ≤ℤ (b *ℤ c) → a ≤ℤ b
 cancel-le a b c h k = by-ltZ b a (λ l. clashℤ (times-lt c h l) k) (λ l. l)
-
-pub cancel-lt : (a b c : ℤ) → pos 0 ≤ℤ c → (a *ℤ c) <ℤ (b *ℤ c) → a <ℤ b
-cancel-lt a b c h k = by-ltZ a b (λ l. l) (λ l. clashℤ k (times-le c h l))

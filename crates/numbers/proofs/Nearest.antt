@@ -1,13 +1,13 @@
 -- The nearest whole number of the form a * 10^j, with a of at most six digits. Assumes nothing.
-use mathlib.Core.Path.{_≡_, refl, sym, _∙_, subst, ap}
+use mathlib.Core.Path.{_≡_, refl, sym, _∙_, ap}
 use mathlib.Core.Logic.{_⊎_, inl, inr}
 use mathlib.Core.Bool.{Bool, true, false, cond}
 use Prim.Native.Nat.{ℕ, zero, suc, _+_, _-_, _*_, _^_, _≤_, _<_}
 use native.Mathlib.Omega.{arith}
-use native.Mathlib.Nat.{mul-le-mul, mul-comm}
-use borrow.Author.Differences.{ints, up, down, same-in}
-use lib.IntN.{ℤ, pos, negsuc, negℤ, natAbs, _+ℤ_, _-ℤ_, _*ℤ_}
-use lib.Signed.{_≤ℤ_, _<ℤ_}
+use native.Mathlib.Nat.{mul-le-mul}
+use borrow.Author.Differences.{ints, down, same-in}
+use lib.IntN.{ℤ, pos, negℤ, natAbs, _*ℤ_}
+use lib.Signed.{_≤ℤ_}
 use native.Mathlib.Numerals.{add-one}
 use lib.Pow.{pow-add}
 use lib.Dec.{leb}
@@ -16,11 +16,11 @@ use Rattle.std.specs.Numbers.{divEuclid}
 use Rattle.std.proofs.shelf.Signed.{by-ltZ}
 use Rattle.numbers.specs.declared.grid.Rounding.{Rounding}
 use Rattle.numbers.specs.declared.grid.Rounding.the-variants.{Down, Up}
-use Rattle.numbers.specs.Fractions.{Fraction, _≤ᶠ_, millionths}
+use Rattle.numbers.specs.Fractions.{millionths}
 use Rattle.numbers.specs.Grids.{IsQuotient, IsRounded}
 use Rattle.numbers.specs.Digits.{six}
 use Rattle.numbers.proofs.Quotients.{floor, stays-within}
-use Rattle.numbers.proofs.Integers.{mul-le, mul-le-back, mul-lt-back, mul-split, mul-bound, up-mul, down-mul}
+use Rattle.numbers.proofs.Integers.{mul-le, mul-le-back, mul-split, mul-bound, up-mul, down-mul}
 
 -- x is such a number, and none is nearer to c on its side
 abbrev pub Near : Rounding → ℤ → ℤ → Type 0

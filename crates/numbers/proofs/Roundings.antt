@@ -1,10 +1,10 @@
 -- Rounding to a grid. Assumes nothing.
-use mathlib.Core.Path.{_≡_, refl, sym, ap, _∙_, subst}
+use mathlib.Core.Path.{_≡_, sym, ap, _∙_}
 use Prim.Native.Nat.{ℕ, _+_, _*_, _≤_, _<_}
 use native.Mathlib.Omega.{arith}
 use native.Mathlib.Nat.{mul-comm}
 use borrow.Author.Differences.{ints}
-use lib.IntN.{ℤ, pos, negsuc, negℤ, _+ℤ_, _-ℤ_, _*ℤ_}
+use lib.IntN.{ℤ, pos, negℤ, _+ℤ_, _-ℤ_, _*ℤ_}
 use lib.Signed.{_≤ℤ_, _<ℤ_}
 use Rattle.std.specs.declared.result.Result.{Result}
 use Rattle.std.specs.declared.result.Result.the-variants.{Ok, Err}
@@ -12,9 +12,9 @@ use Rattle.numbers.specs.declared.grid.Rounding.{Rounding}
 use Rattle.numbers.specs.declared.grid.Rounding.the-variants.{Down, Up}
 use Rattle.numbers.specs.declared.grid.Refusal.{Refusal}
 use Rattle.numbers.specs.declared.grid.Refusal.the-variants.{BeyondReach, ZeroDivisor}
-use mathlib.Core.Logic.{_⊎_, inl, inr}
+use mathlib.Core.Logic.{inl, inr}
 use Rattle.numbers.specs.Fractions.{Fraction, _≤ᶠ_, _<ᶠ_, _≈ᶠ_, over, -ᶠ_}
-use Rattle.numbers.specs.Grids.{Gauge, IsRounded, InReach, Beyond, Answers, Computes, IsQuotient}
+use Rattle.numbers.specs.Grids.{Gauge, IsRounded, Answers, Computes, IsQuotient}
 use Rattle.numbers.proofs.Integers.{mul-split, mul-le, mul-le-back, mul-lt-back}
 use Rattle.numbers.proofs.Orders.{≤ᶠ-trans, <ᶠ-≤ᶠ-trans, ≤ᶠ-<ᶠ-trans, neg-le, alike}
 

@@ -1,16 +1,12 @@
 -- What the proofs of the form "sig" share. Assumes nothing.
 use mathlib.Core.Path.{_≡_, refl, sym, ap, _∙_, subst}
-use mathlib.Core.Bool.{true}
 use Prim.Native.Nat.{ℕ, _*_, _^_, _≤_, _<_}
 use native.Mathlib.Omega.{arith}
 use native.Mathlib.Nat.{mul-pos}
-use borrow.Author.Differences.{ints, true-is-le}
+use borrow.Author.Differences.{ints}
 use lib.IntN.{ℤ, pos, negℤ, natAbs, _*ℤ_}
-use lib.Signed.{leZ, _≤ℤ_}
-use mir.Syntax.{w64, w128}
-use mir.Val.{SFits, toZ, ofZ}
-use Rattle.std.specs.Orderings.{Decides}
-use Rattle.std.proofs.shelf.Signed.{toZ-ofZ}
+use mir.Syntax.{w128}
+use mir.Val.{SFits}
 use Rattle.numbers.specs.declared.sig.Sig.{Sig}
 use Rattle.numbers.specs.declared.grid.Rounding.the-variants.{Down}
 use Rattle.numbers.specs.Fractions.{Fraction, _≈ᶠ_, -ᶠ_, millionths}
@@ -44,10 +40,6 @@ reach v = reach-by (count v) (count-bound v)
 -- every value is a whole number of millionths
 pub finer : (v : Sig) → (n : ℤ) × (millionths n ≈ᶠ meaning v)
 finer v = (count v, alike refl)
-
--- a fact about computed counts, at the values that they are
-pub at-values : (P : ℤ → ℤ → Type 0) {r s x y : ℤ} → r ≡ x → s ≡ y → P r s → P x y
-at-values P {r} {s} {x} {y} e f h = subst (λ (i : ℤ). P i y) e (subst (P r) f h)
 
 -- values without their sign are far from the ends of 128 bits
 pub wide : (a b : ℤ) → natAbs a ≤ 999999000000000000 → natAbs b ≤ 999999000000000000 → SFits w128 (a *ℤ b)

@@ -4,7 +4,7 @@ ghost use Prim.Native.Nat.{_≤_, _<_, _*_, _^_};
 ghost use lib.IntN.{ℤ, pos, natAbs, _*ℤ_};
 ghost use Rattle.std.specs.Orderings.{Decides};
 ghost use Rattle.numbers.specs.Fractions.{_≤ᶠ_, over, thousandths, millionths, _+ᶠ_, _*ᶠ_};
-ghost use Rattle.numbers.specs.Grids.{Gauge, IsRounded, Answers, Divides};
+ghost use Rattle.numbers.specs.Grids.{IsRounded, Answers, Divides};
 ghost use Rattle.numbers.specs.Digits.{digits};
 use crate::grid::Form;
 use crate::grid::Grid;

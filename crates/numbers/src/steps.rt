@@ -1,10 +1,10 @@
 // Forms of equal steps: every multiple of one step from minus the top to the top.
 ghost use mathlib.Core.Path.{_≡_};
 ghost use Prim.Native.Nat.{_<_, _≤_, _*_, _^_};
-ghost use lib.IntN.{ℤ, pos, natAbs};
+ghost use lib.IntN.{ℤ, natAbs};
 ghost use Rattle.std.specs.Orderings.{Decides};
 ghost use Rattle.numbers.specs.Fractions.{_≤ᶠ_, _≈ᶠ_, over, thousandths, -ᶠ_, _+ᶠ_, _*ᶠ_};
-ghost use Rattle.numbers.specs.Grids.{Gauge, IsRounded, Answers, Divides};
+ghost use Rattle.numbers.specs.Grids.{IsRounded, Answers, Divides};
 ghost use Rattle.numbers.specs.Steps.{Steps, evenly};
 use crate::grid::Form;
 use crate::grid::Grid;

@@ -1,21 +1,18 @@
 -- From a form's answers to the steps on ranges. Assumes nothing.
-use mathlib.Core.Path.{_≡_, refl, sym, subst}
+use mathlib.Core.Path.{_≡_, refl}
 use mathlib.Core.Logic.{_⊎_, inl, inr}
 use mathlib.Core.Bool.{Bool, true, false, not, cond}
 use Rattle.std.proofs.shelf.Tests.{false≢true}
-use Rattle.std.specs.declared.result.Result.{Result}
 use Rattle.std.specs.declared.result.Result.the-variants.{Ok, Err}
 use Rattle.numbers.specs.declared.grid.Rounding.{Rounding}
 use Rattle.numbers.specs.declared.grid.Rounding.the-variants.{Down, Up}
 use Rattle.numbers.specs.declared.grid.Refusal.{Refusal}
 use Rattle.numbers.specs.declared.grid.Refusal.the-variants.{BeyondReach, ZeroDivisor}
-use Rattle.ranges.specs.declared.range.Sign.{Sign}
-use Rattle.ranges.specs.declared.range.Sign.the-variants.{Least, Greatest}
 use Rattle.ranges.specs.declared.range.Range.{Range}
 use Rattle.ranges.specs.declared.verdict.Kind.the-variants.{Root}
 use Rattle.ranges.specs.declared.verdict.Verdict.{Verdict}
-use Rattle.numbers.specs.Fractions.{Fraction, zeroᶠ, _≤ᶠ_, _<ᶠ_, _≈ᶠ_, leᶠ, minᶠ, maxᶠ, -ᶠ_, _+ᶠ_, _*ᶠ_, _÷ᶠ_}
-use Rattle.numbers.specs.Grids.{Gauge, IsDown, IsUp, InReach, Beyond, IsRounded, Answers, Divides}
+use Rattle.numbers.specs.Fractions.{Fraction, zeroᶠ, _≤ᶠ_, _<ᶠ_, _≈ᶠ_, leᶠ, minᶠ, maxᶠ, _*ᶠ_}
+use Rattle.numbers.specs.Grids.{Gauge, InReach, Beyond, IsRounded, Answers}
 use Rattle.ranges.specs.Ranges.{Interval, span, _∈ᶠ_, corners, end, outer, outermost, bound, Corner, HoldsZero, IsStep}
 use Rattle.ranges.specs.Verdicts.{Judged, RootHolds, RootBreaks, SquareOf, SquareBeyond, Judges}
 use Rattle.numbers.proofs.Orders.{byᶠ, below-le, ≤ᶠ-refl, ≤ᶠ-trans, clashᶠ, <ᶠ-≤ᶠ-trans, ≤ᶠ-<ᶠ-trans, min-ind, max-ind, min-left, min-right, max-left, max-right}
@@ -158,9 +155,3 @@ module _ {V : Type 0} (G : Gauge V) where
       not-beyond : SquareBeyond G a → ⊥
       not-beyond (inl s) = out (hu .0 (s .0) .0) (s .1)
       not-beyond (inr s) = out (hd .0 (s .0) .0) (s .1)
-
-  -- a quotient by what is not zero
-  pub divided : (to : Rounding) (p d : Fraction) (o : Result V Refusal) → ¬ (d ≈ᶠ zeroᶠ) → Divides G to p d o → Answers G to (p ÷ᶠ d) o
-  divided to p d (Ok v) n h = h .1
-  divided to p d (Err BeyondReach) n h = h .1
-  divided to p d (Err ZeroDivisor) n h = absurd (n h)

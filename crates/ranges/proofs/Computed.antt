@@ -1,5 +1,5 @@
 -- Steps and verdicts by computing are those that are defined. Assumes nothing.
-use mathlib.Core.Path.{_≡_, refl, sym, ap, _∙_, subst}
+use mathlib.Core.Path.{_≡_, refl, sym, ap, subst}
 use mathlib.Core.Logic.{_⊎_, inl, inr}
 use mathlib.Core.Bool.{Bool, true, false, not, _&&_, _||_, cond}
 use lib.Dec.{T}
@@ -21,7 +21,7 @@ use Rattle.ranges.specs.declared.verdict.Kind.{Kind}
 use Rattle.ranges.specs.declared.verdict.Kind.the-variants.{Plain, Root}
 use Rattle.ranges.specs.declared.verdict.Verdict.{Verdict}
 use Rattle.ranges.specs.declared.verdict.Verdict.the-variants.{Holds, Breaks, Open}
-use Rattle.ranges.specs.Ranges.{Interval, ends, HoldsZero, Undefined, IsStep, outward, inReach, holdsZero, undefined, worked, Agrees}
+use Rattle.ranges.specs.Ranges.{Interval, ends, Undefined, IsStep, outward, inReach, undefined, worked, Agrees}
 use Rattle.ranges.specs.Verdicts.{Judged, Squares, Bursts, SquareBeyond, RootHolds, RootBreaks, Judges, above, bursts, rootHolds, rootBreaks, decided, judged}
 
 -- ---- tests

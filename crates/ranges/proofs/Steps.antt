@@ -1,24 +1,22 @@
 -- A step's range holds the step's value at any two fractions of its operands, and a step on narrower ranges gives a narrower range. Assumes nothing.
-use mathlib.Core.Path.{_≡_, refl, sym, ap, _∙_, subst}
+use mathlib.Core.Path.{_≡_, refl, sym, subst}
 use mathlib.Core.Logic.{_⊎_, inl, inr}
 use mathlib.Core.Bool.{Bool, true, false, cond}
-use Prim.Native.Nat.{ℕ, zero, suc}
+use Prim.Native.Nat.{zero, suc}
 use native.Mathlib.Omega.{arith}
-use lib.IntN.{ℤ, pos, negsuc, _*ℤ_}
-use lib.Signed.{_≤ℤ_}
+use lib.IntN.{ℤ, pos, negsuc}
 use Rattle.std.proofs.shelf.Signed.{ints}
-use Rattle.std.specs.declared.option.Option.{Option}
 use Rattle.std.specs.declared.option.Option.the-variants.{Some, None}
 use Rattle.std.specs.declared.result.Result.{Result}
 use Rattle.std.specs.declared.result.Result.the-variants.{Ok, Err}
-use Rattle.numbers.specs.Fractions.{Fraction, zeroᶠ, _≤ᶠ_, _<ᶠ_, minᶠ, maxᶠ, -ᶠ_, _+ᶠ_, _-ᶠ_, _*ᶠ_, inverse, _÷ᶠ_, isZeroᶠ, _/ᶠ_}
+use Rattle.numbers.specs.Fractions.{Fraction, zeroᶠ, _≤ᶠ_, minᶠ, maxᶠ, _+ᶠ_, _-ᶠ_, _*ᶠ_, inverse, _÷ᶠ_, isZeroᶠ}
 use Rattle.ranges.specs.declared.range.Sign.{Sign}
 use Rattle.ranges.specs.declared.range.Sign.the-variants.{Plus, Minus, Times, Over, Least, Greatest}
 use Rattle.numbers.specs.declared.grid.Refusal.{Refusal}
 use Rattle.numbers.specs.declared.grid.Refusal.the-variants.{BeyondReach, ZeroDivisor}
 use Rattle.ranges.specs.declared.range.Range.{Range}
-use Rattle.numbers.specs.Grids.{Gauge, IsDown, IsUp, InReach, Beyond, IsGrid}
-use Rattle.ranges.specs.Ranges.{Interval, span, _∈ᶠ_, Inside, Covers, corners, ends, HoldsZero, Undefined, combine, IsStep, Sound-step, Tight-step, Step-promise}
+use Rattle.numbers.specs.Grids.{Gauge, InReach, Beyond, IsGrid}
+use Rattle.ranges.specs.Ranges.{Interval, span, _∈ᶠ_, Inside, Covers, corners, ends, Undefined, combine, IsStep, Sound-step, Tight-step, Step-promise}
 use Rattle.numbers.proofs.Orders.{≤ᶠ-refl, ≤ᶠ-trans, clashᶠ, plus-le, minus-le, min-ind, max-ind, min-le, max-le, between-up, corners-times, between-inverse}
 use Rattle.ranges.proofs.Computed.{step-agrees}
 

@@ -1,19 +1,19 @@
 -- A verdict that holds over ranges is true, and one that breaks is false, at every choice within them; narrower ranges keep the verdict. Assumes nothing.
-use mathlib.Core.Path.{_≡_, refl, sym, subst}
+use mathlib.Core.Path.{_≡_, refl}
 use mathlib.Core.Logic.{_⊎_, inl, inr}
 use Rattle.std.specs.declared.result.Result.{Result}
 use Rattle.std.specs.declared.result.Result.the-variants.{Ok, Err}
 use Rattle.numbers.specs.Fractions.{Fraction, zeroᶠ, _≤ᶠ_, _<ᶠ_, _*ᶠ_}
 use Rattle.numbers.specs.declared.grid.Refusal.{Refusal}
 use Rattle.numbers.specs.declared.grid.Refusal.the-variants.{BeyondReach, ZeroDivisor}
-use Rattle.numbers.specs.Grids.{Gauge, Beyond, IsGrid}
+use Rattle.numbers.specs.Grids.{Gauge, IsGrid}
 use Rattle.ranges.specs.Ranges.{Interval, _∈ᶠ_, Inside}
 use Rattle.ranges.specs.declared.verdict.Kind.{Kind}
 use Rattle.ranges.specs.declared.verdict.Kind.the-variants.{Plain, Root}
 use Rattle.ranges.specs.declared.verdict.Verdict.{Verdict}
 use Rattle.ranges.specs.declared.verdict.Verdict.the-variants.{Holds, Breaks, Open}
 use Rattle.ranges.specs.Verdicts.{TrueOf, Judged, Squares, Bursts, SquareBeyond, RootHolds, RootBreaks, Judges, Says, Keeps, Sound-verdict, Tight-verdict, Verdict-promise}
-use Rattle.numbers.proofs.Orders.{≤ᶠ-refl, ≤ᶠ-trans, <ᶠ-≤ᶠ-trans, ≤ᶠ-<ᶠ-trans, below-le, clashᶠ, byᶠ, times-nonneg, nonneg-product, times-comm, neg-le}
+use Rattle.numbers.proofs.Orders.{≤ᶠ-trans, <ᶠ-≤ᶠ-trans, ≤ᶠ-<ᶠ-trans, below-le, clashᶠ, byᶠ, times-nonneg, nonneg-product, times-comm, neg-le}
 use Rattle.ranges.proofs.Computed.{judge-agrees}
 
 square-le : {x y : Fraction} → zeroᶠ ≤ᶠ x → x ≤ᶠ y → x *ᶠ x ≤ᶠ y *ᶠ y

@@ -1,5 +1,4 @@
 // Verdicts over a left and a right range.
-ghost use mathlib.Core.Path.{_≡_};
 ghost use Rattle.std.specs.Orderings.{Decides};
 ghost use Rattle.std.specs.declared.result.Result.the-variants.{Ok};
 ghost use Rattle.numbers.specs.Fractions.{zeroᶠ, _<ᶠ_};

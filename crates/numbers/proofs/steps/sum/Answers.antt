@@ -1,10 +1,9 @@
-use mathlib.Core.Path.{_≡_}
 use Prim.Native.Nat.{_<_, _*_}
 use native.Mathlib.Omega.{arith}
 use native.Mathlib.Nat.{mul-pos}
 use borrow.Author.Differences.{ints}
-use lib.IntN.{ℤ, pos}
-use Rattle.numbers.specs.Fractions.{whole, over, _+ᶠ_}
+use lib.IntN.{ℤ}
+use Rattle.numbers.specs.Fractions.{whole}
 use Rattle.numbers.specs.Steps.{evenly}
 use Rattle.numbers.proofs.Roundings.{answers-same}
 use Rattle.numbers.proofs.Counts.{sum-of-counts}

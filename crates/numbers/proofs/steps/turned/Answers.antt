@@ -1,7 +1,7 @@
-use mathlib.Core.Path.{_≡_, _∙_}
+use mathlib.Core.Path.{_≡_}
 use native.Mathlib.Omega.{arith}
 use borrow.Author.Differences.{ints}
-use lib.IntN.{ℤ, negℤ}
+use lib.IntN.{negℤ}
 use Rattle.numbers.proofs.Counts.{same-count}
 use Rattle.numbers.proofs.steps.turned.Needs as need
 

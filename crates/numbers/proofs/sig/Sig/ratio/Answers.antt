@@ -2,12 +2,11 @@ use mathlib.Core.Path.{_≡_, _∙_, ap}
 use native.Mathlib.Omega.{arith}
 use borrow.Author.Differences.{ints}
 use lib.IntN.{ℤ, pos, negℤ, natAbs}
-use lib.Signed.{_≤ℤ_, _<ℤ_}
 use mir.Syntax.{w64}
 use mir.Val.{toZ, ofZ}
 use Rattle.numbers.specs.Fractions.{millionths}
 use Rattle.numbers.proofs.Counts.{by-count}
-use Rattle.numbers.proofs.Sigs.{count, count-bound, gauge}
+use Rattle.numbers.proofs.Sigs.{count, gauge}
 use Rattle.numbers.proofs.sig.Sig.ratio.Needs as need
 
 pub returns : need.returns

@@ -1,7 +1,7 @@
-use mathlib.Core.Path.{_≡_, refl, sym, subst}
+use mathlib.Core.Path.{refl}
 use native.Mathlib.Omega.{arith}
 use borrow.Author.Differences.{ints}
-use lib.IntN.{ℤ, pos}
+use lib.IntN.{ℤ}
 use Rattle.numbers.specs.Fractions.{thousandths, millionths}
 use Rattle.numbers.proofs.Sigs.{count}
 use Rattle.numbers.proofs.Quotients.{quotient-at}

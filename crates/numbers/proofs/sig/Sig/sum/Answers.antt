@@ -1,6 +1,6 @@
 use native.Mathlib.Omega.{arith}
 use borrow.Author.Differences.{ints}
-use lib.IntN.{ℤ, pos}
+use lib.IntN.{pos}
 use Rattle.numbers.specs.Fractions.{millionths}
 use Rattle.numbers.proofs.Roundings.{answers-same}
 use Rattle.numbers.proofs.Counts.{sum-of-counts}

@@ -1,8 +1,3 @@
-use mathlib.Core.Path.{_≡_}
-use Prim.Native.Nat.{_≤_}
-use native.Mathlib.Omega.{arith}
-use borrow.Author.Differences.{ints}
-use lib.IntN.{ℤ, pos, negℤ, natAbs}
 use Rattle.numbers.proofs.Evenly.{even-grid}
 use Rattle.numbers.proofs.steps.EqualGrid.the-impl.Needs as need
 

@@ -1,9 +1,5 @@
-use mathlib.Core.Logic.{inl, inr}
 use Rattle.std.proofs.shelf.Tests.{false≢true}
-use Rattle.std.specs.declared.result.Result.the-variants.{Ok}
-use Rattle.numbers.specs.Fractions.{Fraction, zeroᶠ, _≤ᶠ_, _≈ᶠ_}
-use Rattle.ranges.specs.Ranges.{span, HoldsZero}
-use Rattle.numbers.proofs.Orders.{≤ᶠ-trans}
+use Rattle.ranges.specs.Ranges.{span}
 use Rattle.ranges.proofs.Calls.{zero-low, zero-high}
 use Rattle.ranges.proofs.range.Range.quotient.Needs as need
 
