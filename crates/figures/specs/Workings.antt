@@ -2,16 +2,12 @@
 use mathlib.Core.Path.{_≡_}
 use mathlib.Core.List.{List, [], _∷_}
 use lib.IntN.{ℤ}
-use lib.Dec.{lit<, lit≤}
 use Rattle.std.specs.declared.result.Result.{Result}
 use Rattle.std.specs.declared.result.Result.the-variants.{Ok, Err}
 use Rattle.numbers.specs.declared.grid.Refusal.{Refusal}
-use Rattle.numbers.specs.declared.mil.Mil.{Mil as MilValue}
-use Rattle.numbers.specs.declared.sig.Sig.{Sig as SigValue}
 use Rattle.numbers.specs.Fractions.{thousandths, millionths, _≈ᶠ_}
 use Rattle.numbers.specs.Grids.{Gauge}
-use Rattle.numbers.specs.Steps.{evenly}
-use Rattle.numbers.specs.Digits.{digits}
+use Rattle.numbers.specs.Forms.{mil, sig}
 use Rattle.ranges.specs.declared.range.Sign.{Sign}
 use Rattle.ranges.specs.declared.verdict.Kind.{Kind}
 use Rattle.ranges.specs.declared.verdict.Verdict.{Verdict}
@@ -58,13 +54,7 @@ sides G k (Err e) q = Err e
 sides G k (Ok a) (Err e) = Err e
 sides G k (Ok a) (Ok b) = judged G k a b
 
--- ---- the two forms
-
-abbrev pub mil : Gauge MilValue
-mil = evenly (record { per-one = 1000; most = 3000000000; some = lit< tt; wide = lit≤ tt; narrow = lit≤ tt }) (λ v. v .count)
-
-abbrev pub sig : Gauge SigValue
-sig = digits (λ v. v .mantissa) (λ v. v .exponent)
+-- ---- in a form
 
 abbrev pub comes-in : FormName → Chain → Result Interval Refusal
 comes-in Mil c = comes mil c

@@ -13,7 +13,7 @@ use Rattle.numbers.specs.declared.grid.Rounding.{Rounding}
 use Rattle.numbers.specs.declared.grid.Refusal.{Refusal}
 use Rattle.numbers.specs.declared.grid.Refusal.the-variants.{BeyondReach, ZeroDivisor}
 use Rattle.numbers.specs.Fractions.{Fraction, _≤ᶠ_, _≈ᶠ_, over, zeroᶠ, _+ᶠ_, _*ᶠ_, _÷ᶠ_}
-use Rattle.numbers.specs.Grids.{Gauge, Answers, Divides}
+use Rattle.numbers.specs.Grids.{Gauge, Answers, AnswersOver}
 use Rattle.numbers.proofs.Integers.{spread-left, mul-split, mul-le, mul-le-back, neg-left, neg-right}
 use Rattle.numbers.proofs.Roundings.{answers-same}
 use Rattle.numbers.proofs.Orders.{alike}
@@ -39,7 +39,7 @@ module _ (s : ℕ) (hs : 0 < s) where
   product-of-counts a b e h = rw e (alike refl)
 
   -- a quotient whose divisor is not zero
-  divides-by : {V : Type 0} (G : Gauge V) (to : Rounding) (p d : Fraction) (o : Result V Refusal) → ¬ (d ≈ᶠ zeroᶠ) → Answers G to (p ÷ᶠ d) o → Divides G to p d o
+  divides-by : {V : Type 0} (G : Gauge V) (to : Rounding) (p d : Fraction) (o : Result V Refusal) → ¬ (d ≈ᶠ zeroᶠ) → Answers G to (p ÷ᶠ d) o → AnswersOver G to p d o
   divides-by G to p d (Ok v) n h = (n, h)
   divides-by G to p d (Err BeyondReach) n h = (n, h)
   divides-by G to p d (Err ZeroDivisor) n h = absurd h
@@ -51,7 +51,7 @@ module _ (s : ℕ) (hs : 0 < s) where
       zero-by b h k = omega (arith, ints)
 
   -- n/d counts the quotient of a by b: d is b without its sign, and n is a with that sign, s-fold
-  pub by-count : {V : Type 0} (G : Gauge V) (to : Rounding) (a b m n : ℤ) (d : ℕ) (r : Result V Refusal) → (b ≡ pos 0 → ⊥) → d ≡ natAbs b → (pos 0 ≤ℤ b → m ≡ a) → (b <ℤ pos 0 → m ≡ negℤ a) → n ≡ m *ℤ pos s → ((h : 0 < s * d) → Answers G to (over (s * d) h n) r) → Divides G to (over s hs a) (over s hs b) r
+  pub by-count : {V : Type 0} (G : Gauge V) (to : Rounding) (a b m n : ℤ) (d : ℕ) (r : Result V Refusal) → (b ≡ pos 0 → ⊥) → d ≡ natAbs b → (pos 0 ≤ℤ b → m ≡ a) → (b <ℤ pos 0 → m ≡ negℤ a) → n ≡ m *ℤ pos s → ((h : 0 < s * d) → Answers G to (over (s * d) h n) r) → AnswersOver G to (over s hs a) (over s hs b) r
   by-count G to a (pos zero) m n d r some e p q t f = absurd (some refl)
   by-count G to a (pos (suc k)) m n d r some e p q t f =
       let h : 0 < s * d = mul-pos hs (omega arith) in

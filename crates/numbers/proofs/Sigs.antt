@@ -10,8 +10,9 @@ use mir.Val.{SFits}
 use Rattle.numbers.specs.declared.sig.Sig.{Sig}
 use Rattle.numbers.specs.declared.grid.Rounding.the-variants.{Down}
 use Rattle.numbers.specs.Fractions.{Fraction, _≈ᶠ_, -ᶠ_, millionths}
-use Rattle.numbers.specs.Grids.{Gauge, InReach, Computes, IsQuotient, parts}
-use Rattle.numbers.specs.Digits.{six, digits}
+use Rattle.numbers.specs.Grids.{InReach, Computes, IsQuotient, parts}
+use Rattle.numbers.specs.Digits.{six}
+use Rattle.numbers.specs.Forms.{sig}
 use Rattle.numbers.proofs.Integers.{mul-bound, neg-left}
 use Rattle.numbers.proofs.Orders.{alike}
 use Rattle.numbers.proofs.Quotients.{floor, stays-within}
@@ -25,16 +26,13 @@ count v = v .mantissa *ℤ pos (10 ^ v .exponent)
 abbrev pub meaning : Sig → Fraction
 meaning v = millionths (count v)
 
-abbrev pub gauge : Gauge Sig
-gauge = digits (λ v. v .mantissa) (λ v. v .exponent)
-
 pub count-bound : (v : Sig) → natAbs (count v) ≤ 999999000000000000
 count-bound v = mul-bound (v .mantissa) (pos (10 ^ v .exponent)) 999999 1000000000000 (v .six) (ten-most (v .exponent) (v .power))
 
-reach-by : (n : ℤ) → natAbs n ≤ 999999000000000000 → InReach gauge (millionths n)
+reach-by : (n : ℤ) → natAbs n ≤ 999999000000000000 → InReach sig (millionths n)
 reach-by n h = (record { at-most = omega (arith, ints) }, record { at-most = omega (arith, ints) })
 
-pub reach : (v : Sig) → InReach gauge (meaning v)
+pub reach : (v : Sig) → InReach sig (meaning v)
 reach v = reach-by (count v) (count-bound v)
 
 -- every value is a whole number of millionths
@@ -59,7 +57,7 @@ negative v = (made (negℤ (v .mantissa)) (v .exponent) (omega (arith, ints)) (v
 one : (z : ℤ) → z *ℤ pos 1 ≡ z
 one z = omega (arith, ints)
 
-pub computes : Computes gauge Down
+pub computes : Computes sig Down
 computes q i =
     let n : ℤ = q .num *ℤ pos 1000000 in
     let c : ℤ = parts 1000000 q in

@@ -1,16 +1,18 @@
 -- Grids of fractions, rounding to them, and what a form answers. Assumes nothing.
+use mathlib.Core.Bool.{Bool}
 use mathlib.Core.Logic.{_⊎_}
 use Prim.Native.Nat.{ℕ, _<_}
 use lib.IntN.{ℤ, pos, negℤ, _+ℤ_, _-ℤ_, _*ℤ_}
 use lib.Signed.{_≤ℤ_, _<ℤ_}
 use Rattle.std.specs.Numbers.{divEuclid}
+use Rattle.std.specs.Orderings.{Decides}
 use Rattle.std.specs.declared.result.Result.{Result}
 use Rattle.std.specs.declared.result.Result.the-variants.{Ok, Err}
 use Rattle.numbers.specs.declared.grid.Rounding.{Rounding}
 use Rattle.numbers.specs.declared.grid.Rounding.the-variants.{Down, Up}
 use Rattle.numbers.specs.declared.grid.Refusal.{Refusal}
 use Rattle.numbers.specs.declared.grid.Refusal.the-variants.{BeyondReach, ZeroDivisor}
-use Rattle.numbers.specs.Fractions.{Fraction, over, whole, zeroᶠ, _≤ᶠ_, _<ᶠ_, _≈ᶠ_, -ᶠ_, _÷ᶠ_}
+use Rattle.numbers.specs.Fractions.{Fraction, over, whole, thousandths, zeroᶠ, _≤ᶠ_, _<ᶠ_, _≈ᶠ_, -ᶠ_, _+ᶠ_, _*ᶠ_, _÷ᶠ_}
 
 -- what each value of a grid means, the greatest of those fractions, and the one that a fraction is rounded down to
 pub record Gauge (V : Type 0) : Type 0 where
@@ -51,10 +53,37 @@ Answers G to q (Err BeyondReach) = Beyond G q
 Answers G to q (Err ZeroDivisor) = ⊥
 
 -- what a form answers to p over d: refused as that exactly where d is zero
-abbrev pub Divides : {V : Type 0} → Gauge V → Rounding → Fraction → Fraction → Result V Refusal → Type 0
-Divides G to p d (Ok v) = (¬ (d ≈ᶠ zeroᶠ)) × Answers G to (p ÷ᶠ d) (Ok v)
-Divides G to p d (Err BeyondReach) = (¬ (d ≈ᶠ zeroᶠ)) × Beyond G (p ÷ᶠ d)
-Divides G to p d (Err ZeroDivisor) = d ≈ᶠ zeroᶠ
+abbrev pub AnswersOver : {V : Type 0} → Gauge V → Rounding → Fraction → Fraction → Result V Refusal → Type 0
+AnswersOver G to p d (Ok v) = (¬ (d ≈ᶠ zeroᶠ)) × Answers G to (p ÷ᶠ d) (Ok v)
+AnswersOver G to p d (Err BeyondReach) = (¬ (d ≈ᶠ zeroᶠ)) × Beyond G (p ÷ᶠ d)
+AnswersOver G to p d (Err ZeroDivisor) = d ≈ᶠ zeroᶠ
+
+-- ---- what a grid and a form do
+
+-- compares two values as fractions
+abbrev pub Compares : {V : Type 0} → Gauge V → V → V → Bool → Type 0
+Compares G v w r = Decides r (G .meaning v ≤ᶠ G .meaning w)
+
+-- negates exactly
+abbrev pub Negates : {V : Type 0} → Gauge V → V → V → Type 0
+Negates G v r = G .meaning r ≈ᶠ -ᶠ_ (G .meaning v)
+
+-- takes a count of thousandths
+abbrev pub Takes : {V : Type 0} → Gauge V → Rounding → ℤ → V → Type 0
+Takes G to n r = IsRounded (G .meaning) to (thousandths n) r
+
+-- shows a value as a count of thousandths
+abbrev pub Shows : {V : Type 0} → Gauge V → Rounding → V → ℤ → Type 0
+Shows G to v n = IsRounded thousandths to (G .meaning v) n
+
+abbrev pub Adds : {V : Type 0} → Gauge V → Rounding → V → V → Result V Refusal → Type 0
+Adds G to v w r = Answers G to (G .meaning v +ᶠ G .meaning w) r
+
+abbrev pub Multiplies : {V : Type 0} → Gauge V → Rounding → V → V → Result V Refusal → Type 0
+Multiplies G to v w r = Answers G to (G .meaning v *ᶠ G .meaning w) r
+
+abbrev pub Divides : {V : Type 0} → Gauge V → Rounding → V → V → Result V Refusal → Type 0
+Divides G to v w r = AnswersOver G to (G .meaning v) (G .meaning w) r
 
 -- rounding by computing: a value means what q is rounded to, and is q rounded
 abbrev pub Computes : {V : Type 0} → Gauge V → Rounding → Type 0

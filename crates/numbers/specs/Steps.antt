@@ -1,5 +1,6 @@
 -- Forms of equal steps: every multiple of one step up to a top. Assumes nothing.
 use Prim.Native.Nat.{ℕ, _*_, _≤_, _<_}
+use lib.Dec.{lit<, lit≤}
 use lib.IntN.{ℤ, pos}
 use Rattle.numbers.specs.Fractions.{over}
 use Rattle.numbers.specs.Grids.{Gauge, parts}
@@ -19,3 +20,7 @@ evenly S counts = record {
   top = over (S .per-one) (S .some) (pos (S .most));
   down = λ q. over (S .per-one) (S .some) (parts (S .per-one) q);
 }
+
+-- thousandths, up to 3,000,000
+abbrev pub mil-steps : Steps
+mil-steps = record { per-one = 1000; most = 3000000000; some = lit< tt; wide = lit≤ tt; narrow = lit≤ tt }

@@ -1,9 +1,7 @@
 // Grids of fractions, and forms of numbers that round to them.
 ghost use mathlib.Core.Path.{_≡_};
 ghost use Rattle.std.specs.Options.{Cases as BySome};
-ghost use Rattle.std.specs.Orderings.{Decides};
-ghost use Rattle.numbers.specs.Fractions.{_≤ᶠ_, _≈ᶠ_, thousandths, -ᶠ_, _+ᶠ_, _*ᶠ_};
-ghost use Rattle.numbers.specs.Grids.{Gauge, IsRounded, IsGrid, Answers, Divides, Few};
+ghost use Rattle.numbers.specs.Grids.{Gauge, IsGrid, Compares, Negates, Takes, Shows, Adds, Multiplies, Divides, Few};
 
 // Down is to the greatest value not above, up to the least not below.
 #[derive(Clone, Copy)]
@@ -55,27 +53,27 @@ pub trait Grid: Copy {
     law grid: { IsGrid gauge };
 
     fn at_most(self, other: Self) -> bool
-        ensures { λ r. ⌜ Decides r (gauge .meaning self ≤ᶠ gauge .meaning other) ⌝ };
+        ensures { λ r. ⌜ Compares gauge self other r ⌝ };
 
     fn negated(self) -> Self
-        ensures { λ r. ⌜ gauge .meaning r ≈ᶠ -ᶠ_ (gauge .meaning self) ⌝ };
+        ensures { λ r. ⌜ Negates gauge self r ⌝ };
 
     fn take(given: Thousandths, rounding: Rounding) -> Self
-        ensures { λ r. ⌜ IsRounded (gauge .meaning) rounding (thousandths (given .count)) r ⌝ };
+        ensures { λ r. ⌜ Takes gauge rounding (given .count) r ⌝ };
 
     // The value in whole thousandths.
     fn show(self, rounding: Rounding) -> i64
-        ensures { λ r. ⌜ IsRounded thousandths rounding (gauge .meaning self) r ⌝ };
+        ensures { λ r. ⌜ Shows gauge rounding self r ⌝ };
 }
 
 // A grid with arithmetic, each exact result rounded as told.
 pub trait Form: Grid {
     fn add(self, other: Self, rounding: Rounding) -> Result<Self, Refusal>
-        ensures { λ r. ⌜ Answers (Self·Grid .gauge) rounding (Self·Grid .gauge .meaning self +ᶠ Self·Grid .gauge .meaning other) r ⌝ };
+        ensures { λ r. ⌜ Adds (Self·Grid .gauge) rounding self other r ⌝ };
 
     fn multiply(self, other: Self, rounding: Rounding) -> Result<Self, Refusal>
-        ensures { λ r. ⌜ Answers (Self·Grid .gauge) rounding (Self·Grid .gauge .meaning self *ᶠ Self·Grid .gauge .meaning other) r ⌝ };
+        ensures { λ r. ⌜ Multiplies (Self·Grid .gauge) rounding self other r ⌝ };
 
     fn divide(self, other: Self, rounding: Rounding) -> Result<Self, Refusal>
-        ensures { λ r. ⌜ Divides (Self·Grid .gauge) rounding (Self·Grid .gauge .meaning self) (Self·Grid .gauge .meaning other) r ⌝ };
+        ensures { λ r. ⌜ Divides (Self·Grid .gauge) rounding self other r ⌝ };
 }

@@ -1,8 +1,8 @@
 // The form "mil": every multiple of 1/1000 up to a top of 3,000,000.
 ghost use mathlib.Core.Path.{_≡_};
 ghost use Prim.Native.Nat.{_≤_};
-ghost use lib.Dec.{lit<, lit≤};
 ghost use lib.IntN.{natAbs};
+ghost use Rattle.numbers.specs.Steps.{mil-steps};
 use crate::steps::EqualSteps;
 
 // So many thousandths.
@@ -13,7 +13,7 @@ pub struct Mil {
 }
 
 pub impl EqualSteps for Mil as MilSteps {
-    ghost steps = { record { per-one = 1000; most = 3000000000; some = lit< tt; wide = lit≤ tt; narrow = lit≤ tt } };
+    ghost steps = { mil-steps };
 
     ghost counts = { λ v. v .count };
 

@@ -2,9 +2,8 @@
 ghost use mathlib.Core.Path.{_≡_};
 ghost use Prim.Native.Nat.{_<_, _≤_, _*_, _^_};
 ghost use lib.IntN.{ℤ, natAbs};
-ghost use Rattle.std.specs.Orderings.{Decides};
-ghost use Rattle.numbers.specs.Fractions.{_≤ᶠ_, _≈ᶠ_, over, thousandths, -ᶠ_, _+ᶠ_, _*ᶠ_};
-ghost use Rattle.numbers.specs.Grids.{IsRounded, Answers, Divides};
+ghost use Rattle.numbers.specs.Fractions.{over};
+ghost use Rattle.numbers.specs.Grids.{Answers, Compares, Negates, Takes, Shows, Adds, Multiplies, Divides};
 ghost use Rattle.numbers.specs.Steps.{Steps, evenly};
 use crate::grid::Form;
 use crate::grid::Grid;
@@ -55,44 +54,44 @@ fn rounded<S: EqualSteps>(n: i64, d: u32, rounding: Rounding) -> Result<S, Refus
 }
 
 fn ordered<S: EqualSteps>(left: S, right: S) -> bool
-    ensures { λ r. ⌜ Decides r (evenly (S·EqualSteps .steps) (S·EqualSteps .counts) .meaning left ≤ᶠ evenly (S·EqualSteps .steps) (S·EqualSteps .counts) .meaning right) ⌝ }
+    ensures { λ r. ⌜ Compares (evenly (S·EqualSteps .steps) (S·EqualSteps .counts)) left right r ⌝ }
 {
     left.count() <= right.count()
 }
 
 fn turned<S: EqualSteps>(value: S) -> S
-    ensures { λ r. ⌜ evenly (S·EqualSteps .steps) (S·EqualSteps .counts) .meaning r ≈ᶠ -ᶠ_ (evenly (S·EqualSteps .steps) (S·EqualSteps .counts) .meaning value) ⌝ }
+    ensures { λ r. ⌜ Negates (evenly (S·EqualSteps .steps) (S·EqualSteps .counts)) value r ⌝ }
 {
     S::of(-value.count())
 }
 
 fn taken<S: EqualSteps>(given: Thousandths, rounding: Rounding) -> S
-    ensures { λ r. ⌜ IsRounded (evenly (S·EqualSteps .steps) (S·EqualSteps .counts) .meaning) rounding (thousandths (given .count)) r ⌝ }
+    ensures { λ r. ⌜ Takes (evenly (S·EqualSteps .steps) (S·EqualSteps .counts)) rounding (given .count) r ⌝ }
 {
     let steps = given.count() as i64 * S::per_one() as i64;
     S::of(quotient(steps, 1000, rounding))
 }
 
 fn shown<S: EqualSteps>(value: S, rounding: Rounding) -> i64
-    ensures { λ r. ⌜ IsRounded thousandths rounding (evenly (S·EqualSteps .steps) (S·EqualSteps .counts) .meaning value) r ⌝ }
+    ensures { λ r. ⌜ Shows (evenly (S·EqualSteps .steps) (S·EqualSteps .counts)) rounding value r ⌝ }
 {
     quotient(value.count() * 1000, S::per_one(), rounding)
 }
 
 fn sum<S: EqualSteps>(left: S, right: S, rounding: Rounding) -> Result<S, Refusal>
-    ensures { λ r. ⌜ Answers (evenly (S·EqualSteps .steps) (S·EqualSteps .counts)) rounding (evenly (S·EqualSteps .steps) (S·EqualSteps .counts) .meaning left +ᶠ evenly (S·EqualSteps .steps) (S·EqualSteps .counts) .meaning right) r ⌝ }
+    ensures { λ r. ⌜ Adds (evenly (S·EqualSteps .steps) (S·EqualSteps .counts)) rounding left right r ⌝ }
 {
     rounded(left.count() + right.count(), 1, rounding)
 }
 
 fn product<S: EqualSteps>(left: S, right: S, rounding: Rounding) -> Result<S, Refusal>
-    ensures { λ r. ⌜ Answers (evenly (S·EqualSteps .steps) (S·EqualSteps .counts)) rounding (evenly (S·EqualSteps .steps) (S·EqualSteps .counts) .meaning left *ᶠ evenly (S·EqualSteps .steps) (S·EqualSteps .counts) .meaning right) r ⌝ }
+    ensures { λ r. ⌜ Multiplies (evenly (S·EqualSteps .steps) (S·EqualSteps .counts)) rounding left right r ⌝ }
 {
     rounded(left.count() * right.count(), S::per_one(), rounding)
 }
 
 fn ratio<S: EqualSteps>(left: S, right: S, rounding: Rounding) -> Result<S, Refusal>
-    ensures { λ r. ⌜ Divides (evenly (S·EqualSteps .steps) (S·EqualSteps .counts)) rounding (evenly (S·EqualSteps .steps) (S·EqualSteps .counts) .meaning left) (evenly (S·EqualSteps .steps) (S·EqualSteps .counts) .meaning right) r ⌝ }
+    ensures { λ r. ⌜ Divides (evenly (S·EqualSteps .steps) (S·EqualSteps .counts)) rounding left right r ⌝ }
 {
     let divisor = right.count();
     if divisor == 0 {

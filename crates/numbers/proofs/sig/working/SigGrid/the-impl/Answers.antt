@@ -4,8 +4,9 @@ use borrow.Author.Differences.{ints}
 use lib.IntN.{pos}
 use Rattle.numbers.proofs.Orders.{alike}
 use Rattle.numbers.proofs.Roundings.{computes-both}
-use Rattle.numbers.proofs.Sigs.{count, gauge, negative, reach, computes}
-use Rattle.numbers.proofs.sig.SigGrid.the-impl.Needs as need
+use Rattle.numbers.specs.Forms.{sig}
+use Rattle.numbers.proofs.Sigs.{count, negative, reach, computes}
+use Rattle.numbers.proofs.sig.working.SigGrid.the-impl.Needs as need
 
 pub grid-law : need.grid-law
 grid-law = record {
@@ -18,5 +19,5 @@ grid-law = record {
   scale = 1000000;
   scale-positive = omega arith;
   count = λ v. (count v, alike refl);
-  computes = computes-both gauge negative computes;
+  computes = computes-both sig negative computes;
 }
