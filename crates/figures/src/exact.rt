@@ -10,7 +10,7 @@ use numbers::SigForm;
 use numbers::SigGrid;
 
 // A form whose every value is a whole number of millionths.
-pub trait Exact: Form {
+pub(crate) trait Exact: Form {
     fn exact(self) -> i64
         ensures { λ r. ⌜ Self·Grid .gauge .meaning self ≈ᶠ millionths r ⌝ };
 }

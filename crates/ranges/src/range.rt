@@ -13,13 +13,14 @@ use numbers::Refusal;
 use numbers::Rounding;
 use numbers::Thousandths;
 
+// Every fraction from a low to a high value, the low not above the high.
 #[derive(Clone, Copy)]
 pub struct Range<F> {
     pub low: F,
     pub high: F,
 }
 
-// The signs of a formula.
+// The signs of a formula: + - * / min max.
 #[derive(Clone, Copy)]
 pub enum Sign {
     Plus,
@@ -126,6 +127,7 @@ impl<F: Form> Range<F> {
         Ok(extreme_of_four(ll, lh, hl, hh, rounding))
     }
 
+    // The least of the four products of ends, down; the greatest, up.
     pub fn product(self, other: Range<F>) -> Result<Range<F>, Refusal>
         ensures { λ r. ⌜ IsStep (F·Grid .gauge) Times (span (F·Grid .gauge) self) (span (F·Grid .gauge) other) r ⌝ }
     {
@@ -141,6 +143,7 @@ impl<F: Form> Range<F> {
         around_zero(self.low, self.high) || around_zero(self.high, self.low)
     }
 
+    // The least of the four quotients of ends, down; the greatest, up.
     pub fn quotient(self, other: Range<F>) -> Result<Range<F>, Refusal>
         ensures { λ r. ⌜ IsStep (F·Grid .gauge) Over (span (F·Grid .gauge) self) (span (F·Grid .gauge) other) r ⌝ }
     {
@@ -176,6 +179,7 @@ impl<F: Form> Range<F> {
         self.extremes(other, Rounding::Up)
     }
 
+    // The step that a sign asks for.
     fn stepped(self, sign: Sign, other: Range<F>) -> Result<Range<F>, Refusal>
         ensures { λ r. ⌜ Step-promise (F·Grid .gauge) sign (span (F·Grid .gauge) self) (span (F·Grid .gauge) other) r ⌝ }
     {

@@ -18,6 +18,7 @@ pub enum Kind {
     Root,
 }
 
+// True at every choice from the two ranges, false at every choice, or neither known.
 #[derive(Clone, Copy, PartialEq, Eq, Debug)]
 pub enum Verdict {
     Holds = 1,
@@ -43,6 +44,7 @@ fn square<F: Form>(x: F, rounding: Rounding) -> Result<F, Refusal>
     }
 }
 
+// Whether the root rule holds; `up` is the square of left's high, where that is above zero.
 fn root_holds<F: Form>(left: Range<F>, right: Range<F>, up: F) -> bool
     ensures { λ r. ⌜ Decides r (RootHolds (F·Grid .gauge) (span (F·Grid .gauge) left) (span (F·Grid .gauge) right) up) ⌝ }
 {
@@ -50,6 +52,7 @@ fn root_holds<F: Form>(left: Range<F>, right: Range<F>, up: F) -> bool
     zero.at_most(right.low) && (left.high.at_most(zero) || up.at_most(right.low))
 }
 
+// Whether the root rule breaks; `down` is the square of left's low, where that is above zero.
 fn root_breaks<F: Form>(left: Range<F>, right: Range<F>, down: F) -> bool
     ensures { λ r. ⌜ Decides r (RootBreaks (F·Grid .gauge) (span (F·Grid .gauge) left) (span (F·Grid .gauge) right) down) ⌝ }
 {
