@@ -1,2 +1,2 @@
 pub mod Workings
-pub mod Starred
+pub mod Known

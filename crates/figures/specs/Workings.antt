@@ -64,9 +64,6 @@ abbrev pub judged-in : FormName → Kind → Chain → Chain → Result Verdict 
 judged-in Mil k l r = sides mil k (comes mil l) (comes mil r)
 judged-in Sig k l r = sides sig k (comes sig l) (comes sig r)
 
--- the range in millionths, or the refusal
-abbrev pub Reads : Result Ends Refusal → Result Interval Refusal → Type 0
-Reads (Ok e) (Ok a) = (millionths (e .low) ≈ᶠ a .low) × (millionths (e .high) ≈ᶠ a .high)
-Reads (Ok e) (Err f) = ⊥
-Reads (Err e) (Ok a) = ⊥
-Reads (Err e) (Err f) = e ≡ f
+-- ends in millionths
+abbrev pub Reads : Ends → Interval → Type 0
+Reads e a = (millionths (e .low) ≈ᶠ a .low) × (millionths (e .high) ≈ᶠ a .high)

@@ -51,7 +51,7 @@ pub enum FormName {
 }
 
 // The ends of a range, in millionths.
-#[derive(Clone, Copy, PartialEq, Eq, Debug)]
+#[derive(Clone, Copy)]
 pub struct Ends {
     pub low: i64,
     pub high: i64,

@@ -1,12 +1,11 @@
 // Figures: workings from the left, and rules over two of them.
 ghost use mathlib.Core.Path.{_≡_};
-ghost use Rattle.ranges.specs.Ranges.{Matches, Covers};
+ghost use Rattle.ranges.specs.Ranges.{span, Related, Alike, Covers};
 ghost use Rattle.figures.specs.Workings.{given, chained, comes, sides, comes-in, judged-in, Reads};
-ghost use Rattle.figures.specs.Starred.{starred, All-stand};
+ghost use Rattle.figures.specs.Known.{known, All-stand};
 use crate::entry::Ends;
 use crate::entry::Entry;
 use crate::entry::FormName;
-use crate::entry::Link;
 use crate::entry::Working;
 use crate::exact::Exact;
 use crate::exact::MilExact;
@@ -34,7 +33,7 @@ fn taken<F: Form>(entry: Entry) -> Range<F>
 
 // The range of a working.
 fn worked<F: Form>(working: Working<'_>) -> Result<Range<F>, Refusal>
-    ensures { λ r. ⌜ Matches (F·Grid .gauge) r (comes (F·Grid .gauge) (chained (working .entry .first) (now (working .entry .links)))) ⌝ }
+    ensures { λ r. ⌜ Related (λ x. Alike (span (F·Grid .gauge) x)) r (comes (F·Grid .gauge) (chained (working .entry .first) (now (working .entry .links)))) ⌝ }
 {
     let mut range = taken(working.first);
     for link in working.links {
@@ -45,7 +44,7 @@ fn worked<F: Form>(working: Working<'_>) -> Result<Range<F>, Refusal>
 
 // The ends of a working's range.
 fn read<F: Exact>(working: Working<'_>) -> Result<Ends, Refusal>
-    ensures { λ r. ⌜ Reads r (comes (F·Grid .gauge) (chained (working .entry .first) (now (working .entry .links)))) ⌝ }
+    ensures { λ r. ⌜ Related Reads r (comes (F·Grid .gauge) (chained (working .entry .first) (now (working .entry .links)))) ⌝ }
 {
     let range = worked::<F>(working)?;
     Ok(Ends {
@@ -63,10 +62,10 @@ fn checked<F: Form>(kind: Kind, left: Working<'_>, right: Working<'_>) -> Result
     judge(kind, left, right)
 }
 
-// What a working comes to in a form. The figures that are known beforehand are such.
+// What a working comes to in a form. The known figures are such.
 pub fn figure(form: FormName, working: Working<'_>) -> Result<Ends, Refusal>
-    ensures answer { λ r. ⌜ Reads r (comes-in form (chained (working .entry .first) (now (working .entry .links)))) ⌝ }
-    ensures stand { λ _. ⌜ All-stand starred ⌝ }
+    ensures answer { λ r. ⌜ Related Reads r (comes-in form (chained (working .entry .first) (now (working .entry .links)))) ⌝ }
+    ensures stand { λ _. ⌜ All-stand known ⌝ }
 {
     match form {
         FormName::Mil => read::<Mil>(working),

@@ -14,9 +14,9 @@ use Rattle.numbers.specs.declared.grid.Refusal.{Refusal}
 use Rattle.numbers.specs.declared.grid.Refusal.the-variants.{BeyondReach, ZeroDivisor}
 use mathlib.Core.Logic.{inl, inr}
 use Rattle.numbers.specs.Fractions.{Fraction, _≤ᶠ_, _<ᶠ_, _≈ᶠ_, over, -ᶠ_}
-use Rattle.numbers.specs.Grids.{Gauge, IsRounded, Answers, Computes, IsQuotient}
+use Rattle.numbers.specs.Grids.{Gauge, IsRounded, InReach, Beyond, Answers, Computes, IsQuotient}
 use Rattle.numbers.proofs.Integers.{mul-split, mul-le, mul-le-back, mul-lt-back}
-use Rattle.numbers.proofs.Orders.{≤ᶠ-trans, <ᶠ-≤ᶠ-trans, ≤ᶠ-<ᶠ-trans, neg-le, alike}
+use Rattle.numbers.proofs.Orders.{≤ᶠ-trans, <ᶠ-≤ᶠ-trans, ≤ᶠ-<ᶠ-trans, clashᶠ, neg-le, alike}
 
 -- a value that means q is q rounded either way
 pub rounded-exact : {V : Type 0} (meaning : V → Fraction) (to : Rounding) (v : V) {q : Fraction} → meaning v ≈ᶠ q → IsRounded meaning to q v
@@ -35,6 +35,11 @@ module _ {V : Type 0} (G : Gauge V) where
   answers-same to (Err BeyondReach) e (inl b) = inl (≤ᶠ-<ᶠ-trans (e .1) b)
   answers-same to (Err BeyondReach) e (inr b) = inr (<ᶠ-≤ᶠ-trans b (e .0))
   answers-same to (Err ZeroDivisor) e b = absurd b
+
+-- what is in reach is not beyond it
+pub not-beyond : {V : Type 0} (G : Gauge V) {q : Fraction} → InReach G q → Beyond G q → ⊥
+not-beyond G i (inl b) = clashᶠ b (i .0)
+not-beyond G i (inr b) = clashᶠ b (i .1)
 
 -- A grid of whole numbers of 1/s: the value with the count n/d, rounded, is n/(s * d), rounded.
 module _ {G : Type 0} (count : G → ℤ) (s : ℕ) (hs : 0 < s) where

@@ -16,7 +16,7 @@ use Rattle.numbers.specs.Grids.{Gauge, InReach, Beyond, IsRounded, Answers}
 use Rattle.ranges.specs.Ranges.{Interval, span, _∈ᶠ_, corners, end, outer, outermost, bound, Corner, HoldsZero, IsStep}
 use Rattle.ranges.specs.Verdicts.{Judged, RootHolds, RootBreaks, SquareOf, SquareBeyond, Judges}
 use Rattle.numbers.proofs.Orders.{byᶠ, below-le, ≤ᶠ-refl, ≤ᶠ-trans, clashᶠ, <ᶠ-≤ᶠ-trans, ≤ᶠ-<ᶠ-trans, min-ind, max-ind, min-left, min-right, max-left, max-right}
-use Rattle.numbers.proofs.Roundings.{rounded-exact}
+use Rattle.numbers.proofs.Roundings.{rounded-exact, not-beyond}
 
 -- a test that does not pass
 pub untrue : (b : Bool) → (b ≡ true → ⊥) → not b ≡ true
@@ -146,12 +146,8 @@ module _ {V : Type 0} (G : Gauge V) where
 
   pub root-judged : (a b : Interval) (up down : V) (v : Verdict) → SquareOf G Up (a .high) (Ok up) → SquareOf G Down (a .low) (Ok down) →
       Judged (RootHolds G a b up) (RootBreaks G a b down) v → Judges G Root a b (Ok v)
-  root-judged a b up down v hu hd d = (not-beyond, (record { up = up; down = down; up-is = λ p. hu .0 p .1; down-is = λ p. hd .0 p .1 }, d))
+  root-judged a b up down v hu hd d = (never, (record { up = up; down = down; up-is = λ p. hu .0 p .1; down-is = λ p. hd .0 p .1 }, d))
     where
-      out : {q : Fraction} → InReach G q → Beyond G q → ⊥
-      out i (inl b) = clashᶠ b (i .0)
-      out i (inr b) = clashᶠ b (i .1)
-
-      not-beyond : SquareBeyond G a → ⊥
-      not-beyond (inl s) = out (hu .0 (s .0) .0) (s .1)
-      not-beyond (inr s) = out (hd .0 (s .0) .0) (s .1)
+      never : SquareBeyond G a → ⊥
+      never (inl s) = not-beyond G (hu .0 (s .0) .0) (s .1)
+      never (inr s) = not-beyond G (hd .0 (s .0) .0) (s .1)

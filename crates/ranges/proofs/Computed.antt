@@ -13,6 +13,7 @@ use Rattle.numbers.specs.declared.grid.Refusal.{Refusal}
 use Rattle.numbers.specs.declared.grid.Refusal.the-variants.{BeyondReach, ZeroDivisor}
 use Rattle.numbers.specs.Fractions.{Fraction, zeroᶠ, _≤ᶠ_, _<ᶠ_, _≈ᶠ_, leᶠ, -ᶠ_, _*ᶠ_}
 use Rattle.numbers.specs.Grids.{Gauge, rounded, IsRounded, InReach, Beyond, IsGrid}
+use Rattle.numbers.proofs.Roundings.{not-beyond}
 use Rattle.numbers.proofs.Orders.{≤ᶠ-trans, <ᶠ-≤ᶠ-trans, clashᶠ, below-of-not, leᶠ-yes, leᶠ-no}
 use Rattle.ranges.specs.declared.range.Range.{Range}
 use Rattle.ranges.specs.declared.range.Sign.{Sign}
@@ -21,7 +22,7 @@ use Rattle.ranges.specs.declared.verdict.Kind.{Kind}
 use Rattle.ranges.specs.declared.verdict.Kind.the-variants.{Plain, Root}
 use Rattle.ranges.specs.declared.verdict.Verdict.{Verdict}
 use Rattle.ranges.specs.declared.verdict.Verdict.the-variants.{Holds, Breaks, Open}
-use Rattle.ranges.specs.Ranges.{Interval, ends, Undefined, IsStep, outward, inReach, undefined, worked, Agrees}
+use Rattle.ranges.specs.Ranges.{Interval, ends, Undefined, IsStep, outward, inReach, undefined, worked, Related, SameEnds}
 use Rattle.ranges.specs.Verdicts.{Judged, Squares, Bursts, SquareBeyond, RootHolds, RootBreaks, Judges, above, bursts, rootHolds, rootBreaks, decided, judged}
 
 -- ---- tests
@@ -69,10 +70,6 @@ module _ {V : Type 0} (G : Gauge V) where
   decides-reach : (q : Fraction) → Decides (inReach G q) (InReach G q)
   decides-reach q = both (leᶠ (-ᶠ_ (G .top)) q) (leᶠ q (G .top)) (decides-le (-ᶠ_ (G .top)) q) (decides-le q (G .top))
 
-  not-both : {q : Fraction} → InReach G q → Beyond G q → ⊥
-  not-both i (inl b) = clashᶠ b (i .0)
-  not-both i (inr b) = clashᶠ b (i .1)
-
   beyond-by : (q : Fraction) → (InReach G q → ⊥) → Beyond G q
   beyond-by q n = go (leᶠ (-ᶠ_ (G .top)) q) (decides-le (-ᶠ_ (G .top)) q)
     where
@@ -91,16 +88,16 @@ module _ {V : Type 0} (G : Gauge V) where
     within : (a : Interval) → Decides (inReach G (a .low) && inReach G (a .high)) (InReach G (a .low) × InReach G (a .high))
     within a = both (inReach G (a .low)) (inReach G (a .high)) (decides-reach (a .low)) (decides-reach (a .high))
 
-    pub step-agrees : (s : Sign) (a b : Interval) (o : Result (Range V) Refusal) → IsStep G s a b o → Agrees G o (worked G s a b)
+    pub step-agrees : (s : Sign) (a b : Interval) (o : Result (Range V) Refusal) → IsStep G s a b o → Related (SameEnds G) o (worked G s a b)
     step-agrees s a b o w = go o (undefined s b) (inReach G (ends s a b .low) && inReach G (ends s a b .high)) (decides-undefined s b) (within (ends s a b)) w
       where
         go : (o : Result (Range V) Refusal) (t u : Bool) → Decides t (Undefined s b) → Decides u (InReach G (ends s a b .low) × InReach G (ends s a b .high)) → IsStep G s a b o →
-            Agrees G o (cond t (Err ZeroDivisor) (cond u (Ok (outward G (ends s a b))) (Err BeyondReach)))
+            Related (SameEnds G) o (cond t (Err ZeroDivisor) (cond u (Ok (outward G (ends s a b))) (Err BeyondReach)))
         go (Ok r) true u d e w = w .0 (d .0 refl)
         go (Ok r) false true d e w = (computed-end Down (ends s a b .low) (r .low) (w .1) (w .3 .0), computed-end Up (ends s a b .high) (r .high) (w .2) (w .3 .1))
         go (Ok r) false false d e w = false≢true (e .1 (w .1, w .2))
         go (Err BeyondReach) true u d e w = absurd (w .0 (d .0 refl))
-        go (Err BeyondReach) false true d e w = absurd (elim (w .1) [ inl x ↦ not-both (e .0 refl .0) x | inr x ↦ not-both (e .0 refl .1) x ])
+        go (Err BeyondReach) false true d e w = absurd (elim (w .1) [ inl x ↦ not-beyond G (e .0 refl .0) x | inr x ↦ not-beyond G (e .0 refl .1) x ])
         go (Err BeyondReach) false false d e w = refl
         go (Err ZeroDivisor) true u d e w = refl
         go (Err ZeroDivisor) false u d e w = absurd (false≢true (d .1 w))
@@ -134,7 +131,7 @@ module _ {V : Type 0} (G : Gauge V) where
     decides-bursts x = both (above x) (not (inReach G (x *ᶠ x))) (decides-lt zeroᶠ x) (go (inReach G (x *ᶠ x)) (decides-reach (x *ᶠ x)))
       where
         go : (t : Bool) → Decides t (InReach G (x *ᶠ x)) → Decides (not t) (Beyond G (x *ᶠ x))
-        go true d = (λ f. absurd (false≢true f), λ b. absurd (not-both (d .0 refl) b))
+        go true d = (λ f. absurd (false≢true f), λ b. absurd (not-beyond G (d .0 refl) b))
         go false d = (λ _. beyond-by (x *ᶠ x) (denied d refl), λ _. refl)
 
     -- a square that does not burst is in reach

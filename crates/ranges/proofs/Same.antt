@@ -19,7 +19,7 @@ use Rattle.ranges.specs.declared.verdict.Kind.{Kind}
 use Rattle.ranges.specs.declared.verdict.Kind.the-variants.{Plain, Root}
 use Rattle.ranges.specs.declared.verdict.Verdict.{Verdict}
 use Rattle.ranges.specs.declared.verdict.Verdict.the-variants.{Holds, Breaks, Open}
-use Rattle.ranges.specs.Ranges.{Interval, span, Inside, Covers, IsStep, outward, worked, Agrees, Alike, Matches}
+use Rattle.ranges.specs.Ranges.{Interval, span, Inside, Covers, IsStep, outward, worked, Related, SameEnds, Alike}
 use Rattle.ranges.specs.Verdicts.{Judges, Keeps, judged}
 use Rattle.ranges.proofs.Steps.{undefined-wider, step-tight}
 use Rattle.ranges.proofs.Verdicts.{keeps, judge-tight}
@@ -37,10 +37,10 @@ agree Open Breaks k l = l
 agree Open Open k l = refl
 
 module _ {V : Type 0} (G : Gauge V) (grid : IsGrid G) where
-  pub step-alike : (s : Sign) (a a′ b b′ : Interval) (o : Result (Range V) Refusal) → Alike a a′ → Alike b b′ → IsStep G s a b o → Matches G o (worked G s a′ b′)
+  pub step-alike : (s : Sign) (a a′ b b′ : Interval) (o : Result (Range V) Refusal) → Alike a a′ → Alike b b′ → IsStep G s a b o → Related (λ x. Alike (span G x)) o (worked G s a′ b′)
   step-alike s a a′ b b′ o i j w = let (o′, w′) = step-exists G grid s a′ b′ in go o o′ (worked G s a′ b′) w w′ (step-agrees G grid s a′ b′ o′ w′)
     where
-      go : (o o′ : Result (Range V) Refusal) (c : Result Interval Refusal) → IsStep G s a b o → IsStep G s a′ b′ o′ → Agrees G o′ c → Matches G o c
+      go : (o o′ : Result (Range V) Refusal) (c : Result Interval Refusal) → IsStep G s a b o → IsStep G s a′ b′ o′ → Related (SameEnds G) o′ c → Related (λ x. Alike (span G x)) o c
       go (Ok r) (Ok r′) (Ok c) w w′ (l, h) =
           let (x, ex, ix) = step-tight G s a a′ b b′ r (Ok r′) (i .1) (j .1) w w′ in
           let (y, ey, iy) = step-tight G s a′ a b′ b r′ (Ok r) (i .0) (j .0) w′ w in

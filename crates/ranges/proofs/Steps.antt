@@ -16,7 +16,8 @@ use Rattle.numbers.specs.declared.grid.Refusal.{Refusal}
 use Rattle.numbers.specs.declared.grid.Refusal.the-variants.{BeyondReach, ZeroDivisor}
 use Rattle.ranges.specs.declared.range.Range.{Range}
 use Rattle.numbers.specs.Grids.{Gauge, InReach, Beyond, IsGrid}
-use Rattle.ranges.specs.Ranges.{Interval, span, _∈ᶠ_, Inside, Covers, corners, ends, Undefined, combine, IsStep, Sound-step, Tight-step, Step-promise}
+use Rattle.ranges.specs.Ranges.{Interval, span, _∈ᶠ_, Inside, Covers, corners, ends, Undefined, combine, IsStep, Sound-step, Narrowest-step, Tight-step, Step-promise}
+use Rattle.numbers.proofs.Roundings.{not-beyond}
 use Rattle.numbers.proofs.Orders.{≤ᶠ-refl, ≤ᶠ-trans, clashᶠ, plus-le, minus-le, min-ind, max-ind, min-le, max-le, between-up, corners-times, between-inverse}
 use Rattle.ranges.proofs.Computed.{step-agrees}
 
@@ -135,9 +136,9 @@ module _ {V : Type 0} (G : Gauge V) where
   covers-inside r r′ i c d =
       (d .0 .1 (r .low) (≤ᶠ-trans (c .0 .0) (i .0)), ≤ᶠ-trans (d .0 .0) (≤ᶠ-trans (i .1) (d .1 .0)), d .1 .1 (r .high) (≤ᶠ-trans (i .2) (c .1 .0)))
 
-  not-beyond : {l q h : Fraction} → InReach G l → InReach G h → l ≤ᶠ q → q ≤ᶠ h → ¬ (Beyond G q)
-  not-beyond i j k m (inl b) = clashᶠ b (≤ᶠ-trans (i .0) k)
-  not-beyond i j k m (inr b) = clashᶠ b (≤ᶠ-trans m (j .1))
+  -- between two fractions in reach
+  reach-between : {l q h : Fraction} → InReach G l → InReach G h → l ≤ᶠ q → q ≤ᶠ h → InReach G q
+  reach-between i j k m = (≤ᶠ-trans (i .0) k, ≤ᶠ-trans m (j .1))
 
   -- ---- a step on ranges
 
@@ -154,8 +155,8 @@ module _ {V : Type 0} (G : Gauge V) where
       e = ends-inside s a a′ b b′ i j (w .0)
 
       out : Beyond G (ends s a′ b′ .low) ⊎ Beyond G (ends s a′ b′ .high) → ⊥
-      out (inl x) = not-beyond (w .1) (w .2) (e .0) (≤ᶠ-trans (e .1) (e .2)) x
-      out (inr x) = not-beyond (w .1) (w .2) (≤ᶠ-trans (e .0) (e .1)) (e .2) x
+      out (inl x) = not-beyond G (reach-between (w .1) (w .2) (e .0) (≤ᶠ-trans (e .1) (e .2))) x
+      out (inr x) = not-beyond G (reach-between (w .1) (w .2) (≤ᶠ-trans (e .0) (e .1)) (e .2)) x
   step-tight s a a′ b b′ r (Err ZeroDivisor) i j w w′ = absurd (w .0 (undefined-wider s {b = b} {b′ = b′} j w′))
 
   pub sound-step : (s : Sign) (a b : Interval) (o : Result (Range V) Refusal) → IsStep G s a b o → Sound-step G s a b o
@@ -165,5 +166,14 @@ module _ {V : Type 0} (G : Gauge V) where
   pub tight-step : (s : Sign) (a b : Interval) (o : Result (Range V) Refusal) → IsStep G s a b o → Tight-step G s a b o
   tight-step s a b o w a⁺ b⁺ r⁺ i j w⁺ = step-tight s a⁺ a b⁺ b r⁺ o i j w⁺ w
 
+  narrowest-step : (s : Sign) (a b : Interval) (o : Result (Range V) Refusal) → IsStep G s a b o → Narrowest-step G s a b o
+  narrowest-step s a b (Ok r) w = λ c h k holds.
+      let own-a : Inside a a = (≤ᶠ-refl (a .low), h, ≤ᶠ-refl (a .high)) in
+      let own-b : Inside b b = (≤ᶠ-refl (b .low), k, ≤ᶠ-refl (b .high)) in
+      let inner = ends-ind s a b (λ q. G .meaning (c .low) ≤ᶠ q) (λ q. q ≤ᶠ G .meaning (c .high))
+          (λ x y i j. holds x y (value s x y) (end-in own-a x i) (end-in own-b y j) (combine-is s {b = b} x (w .0) (end-in own-b y j))) in
+      (w .3 .0 .1 (c .low) (inner .0), w .3 .1 .1 (c .high) (inner .1))
+  narrowest-step s a b (Err e) w = tt
+
   pub step-promise : IsGrid G → (s : Sign) (a b : Interval) (o : Result (Range V) Refusal) → IsStep G s a b o → Step-promise G s a b o
-  step-promise grid s a b o w = record { answer = w; sound = sound-step s a b o w; tight = tight-step s a b o w; computed = step-agrees G grid s a b o w }
+  step-promise grid s a b o w = record { answer = w; sound = sound-step s a b o w; narrowest = narrowest-step s a b o w; tight = tight-step s a b o w; computed = step-agrees G grid s a b o w }

@@ -91,6 +91,12 @@ abbrev pub Sound-step : {V : Type 0} → Gauge V → Sign → Interval → Inter
 Sound-step G s a b (Ok r) = (p q : Fraction) → p ∈ᶠ a → q ∈ᶠ b → (x : Fraction) × (combine s p q ≡ Some x) × x ∈ᶠ span G r
 Sound-step G s a b (Err e) = Unit {0}
 
+-- no range of the form that holds the exact result at every choice is narrower
+abbrev pub Narrowest-step : {V : Type 0} → Gauge V → Sign → Interval → Interval → Result (Range V) Refusal → Type 0
+Narrowest-step {V} G s a b (Ok r) = (c : Range V) → a .low ≤ᶠ a .high → b .low ≤ᶠ b .high → ((p q x : Fraction) → p ∈ᶠ a → q ∈ᶠ b → combine s p q ≡ Some x → x ∈ᶠ span G c) →
+    (G .meaning (c .low) ≤ᶠ G .meaning (r .low)) × (G .meaning (r .high) ≤ᶠ G .meaning (c .high))
+Narrowest-step G s a b (Err e) = Unit {0}
+
 -- where a step on wider operands is not refused, this one is not either, and its range lies inside
 abbrev pub Tight-step : {V : Type 0} → Gauge V → Sign → Interval → Interval → Result (Range V) Refusal → Type 0
 Tight-step {V} G s a b o = (a⁺ b⁺ : Interval) (r⁺ : Range V) → Inside a a⁺ → Inside b b⁺ → IsStep G s a⁺ b⁺ (Ok r⁺) → (r : Range V) × (o ≡ Ok r) × Inside (span G r) (span G r⁺)
@@ -120,30 +126,28 @@ undefined Greatest b = false
 abbrev pub worked : {V : Type 0} → Gauge V → Sign → Interval → Interval → Result Interval Refusal
 worked G s a b = cond (undefined s b) (Err ZeroDivisor) (cond (inReach G (ends s a b .low) && inReach G (ends s a b .high)) (Ok (outward G (ends s a b))) (Err BeyondReach))
 
--- the same range, or the same refusal
-abbrev pub Agrees : {V : Type 0} → Gauge V → Result (Range V) Refusal → Result Interval Refusal → Type 0
-Agrees G (Ok r) (Ok a) = (G .meaning (r .low) ≈ᶠ a .low) × (G .meaning (r .high) ≈ᶠ a .high)
-Agrees G (Ok r) (Err e) = ⊥
-Agrees G (Err e) (Ok a) = ⊥
-Agrees G (Err e) (Err f) = e ≡ f
+-- results that R relates, or the same refusal
+abbrev pub Related : {A B : Type 0} → (A → B → Type 0) → Result A Refusal → Result B Refusal → Type 0
+Related R (Ok x) (Ok y) = R x y
+Related R (Ok x) (Err e) = ⊥
+Related R (Err e) (Ok y) = ⊥
+Related R (Err e) (Err f) = e ≡ f
+
+-- ends that are equal as fractions
+abbrev pub SameEnds : {V : Type 0} → Gauge V → Range V → Interval → Type 0
+SameEnds G r a = (G .meaning (r .low) ≈ᶠ a .low) × (G .meaning (r .high) ≈ᶠ a .high)
 
 -- the same range, perhaps in other terms
 abbrev pub Alike : Interval → Interval → Type 0
 Alike a b = Inside a b × Inside b a
 
--- the range that computing gives, or the refusal
-abbrev pub Matches : {V : Type 0} → Gauge V → Result (Range V) Refusal → Result Interval Refusal → Type 0
-Matches G (Ok r) (Ok a) = Alike (span G r) a
-Matches G (Ok r) (Err e) = ⊥
-Matches G (Err e) (Ok a) = ⊥
-Matches G (Err e) (Err f) = e ≡ f
-
 -- what is promised of a step: its result, the laws, and what computing gives
 pub record Step-promise {V : Type 0} (G : Gauge V) (s : Sign) (a b : Interval) (o : Result (Range V) Refusal) : Type 0 where
   pub answer : IsStep G s a b o
   pub sound : Sound-step G s a b o
+  pub narrowest : Narrowest-step G s a b o
   pub tight : Tight-step G s a b o
-  pub computed : Agrees G o (worked G s a b)
+  pub computed : Related (SameEnds G) o (worked G s a b)
 
 -- ---- what the working's own functions say
 

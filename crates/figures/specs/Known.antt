@@ -51,8 +51,8 @@ then c s low high = record { first = c .first; rest = added (c .rest) }
     added [] = (s, from low high) ∷ []
     added (l ∷ ls) = l ∷ added ls
 
-abbrev pub starred : List Figure
-starred =
+abbrev pub known : List Figure
+known =
     range Mil (then (one (pos 2000) (pos 2000)) Over (pos 3000) (pos 3000)) (pos 666000) (pos 667000)
     ∷ (range Mil (then (then (one (pos 0) (pos 0)) Minus (pos 2000) (pos 2000)) Over (pos 3000) (pos 3000)) (negℤ (pos 667000)) (negℤ (pos 666000))
     ∷ (range Sig (then (one (pos 2000) (pos 2000)) Over (pos 3000) (pos 3000)) (pos 666666) (pos 666667)
