@@ -5,6 +5,8 @@ ghost use lib.IntN.{natAbs};
 ghost use Rattle.numbers.specs.Steps.{mil-steps};
 use crate::steps::EqualSteps;
 
+mod exact;
+
 // So many thousandths.
 #[derive(Clone, Copy)]
 pub struct Mil {
@@ -31,14 +33,5 @@ pub impl EqualSteps for Mil as MilSteps {
 
     fn of(count: i64) -> Mil {
         Mil { count }
-    }
-}
-
-impl Mil {
-    // The value in thousandths, exactly.
-    pub fn thousandths(self) -> i64
-        ensures { λ r. ⌜ r ≡ self .count ⌝ }
-    {
-        self.count()
     }
 }

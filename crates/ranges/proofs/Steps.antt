@@ -171,7 +171,7 @@ module _ {V : Type 0} (G : Gauge V) where
       let own-a : Inside a a = (≤ᶠ-refl (a .low), h, ≤ᶠ-refl (a .high)) in
       let own-b : Inside b b = (≤ᶠ-refl (b .low), k, ≤ᶠ-refl (b .high)) in
       let inner = ends-ind s a b (λ q. G .meaning (c .low) ≤ᶠ q) (λ q. q ≤ᶠ G .meaning (c .high))
-          (λ x y i j. holds x y (value s x y) (end-in own-a x i) (end-in own-b y j) (combine-is s {b = b} x (w .0) (end-in own-b y j))) in
+      (λ x y i j. holds x y (value s x y) (end-in own-a x i) (end-in own-b y j) (combine-is s {b = b} x (w .0) (end-in own-b y j))) in
       (w .3 .0 .1 (c .low) (inner .0), w .3 .1 .1 (c .high) (inner .1))
   narrowest-step s a b (Err e) w = tt
 

@@ -46,7 +46,7 @@ fn minus<F: Form>(x: F, y: F, rounding: Rounding) -> Result<F, Refusal>
 }
 
 // The lesser of two values, or the greater where rounding is up.
-fn extreme<F: Form>(x: F, y: F, rounding: Rounding) -> F
+fn extreme<F: Grid>(x: F, y: F, rounding: Rounding) -> F
     ensures { λ r. ⌜ r ≡ outermost (F·Grid .gauge) rounding x y ⌝ }
 {
     let ordered = x.at_most(y);
@@ -57,7 +57,7 @@ fn extreme<F: Form>(x: F, y: F, rounding: Rounding) -> F
 }
 
 // Whether x is at most zero and y at least.
-fn around_zero<F: Form>(x: F, y: F) -> bool
+fn around_zero<F: Grid>(x: F, y: F) -> bool
     ensures { λ r. ⌜ Decides r ((F·Grid .gauge .meaning x ≤ᶠ zeroᶠ) × (zeroᶠ ≤ᶠ F·Grid .gauge .meaning y)) ⌝ }
 {
     let zero = zero::<F>();
@@ -77,7 +77,7 @@ fn pairing<F: Form>(over: bool, x: F, y: F, rounding: Rounding) -> Result<F, Ref
 }
 
 // The least of four values, or the greatest where rounding is up.
-fn extreme_of_four<F: Form>(ll: F, lh: F, hl: F, hh: F, rounding: Rounding) -> F
+fn extreme_of_four<F: Grid>(ll: F, lh: F, hl: F, hh: F, rounding: Rounding) -> F
     ensures { λ r. ⌜ r ≡ outermost (F·Grid .gauge) rounding (outermost (F·Grid .gauge) rounding ll lh) (outermost (F·Grid .gauge) rounding hl hh) ⌝ }
 {
     let low_side = extreme(ll, lh, rounding);
@@ -85,7 +85,7 @@ fn extreme_of_four<F: Form>(ll: F, lh: F, hl: F, hh: F, rounding: Rounding) -> F
     extreme(low_side, high_side, rounding)
 }
 
-impl<F: Form> Range<F> {
+impl<F: Grid> Range<F> {
     // The range of the fractions from low to high.
     pub fn take(low: Thousandths, high: Thousandths) -> Range<F>
         ensures { λ r. ⌜ Covers (F·Grid .gauge) (record { low = thousandths (low .count); high = thousandths (high .count) }) r ⌝ }
@@ -96,6 +96,39 @@ impl<F: Form> Range<F> {
         }
     }
 
+    // Whether zero lies between the ends.
+    fn holds_zero(self) -> bool
+        ensures { λ r. ⌜ Decides r (HoldsZero (span (F·Grid .gauge) self)) ⌝ }
+    {
+        around_zero(self.low, self.high) || around_zero(self.high, self.low)
+    }
+
+    // The lesser low and the lesser high, or the greater where rounding is up.
+    fn extremes(self, other: Range<F>, rounding: Rounding) -> Range<F>
+        ensures { λ r. ⌜ IsStep (F·Grid .gauge) (bound rounding) (span (F·Grid .gauge) self) (span (F·Grid .gauge) other) (Ok r) ⌝ }
+    {
+        Range {
+            low: extreme(self.low, other.low, rounding),
+            high: extreme(self.high, other.high, rounding),
+        }
+    }
+
+    // The lesser low and the lesser high.
+    pub fn min(self, other: Range<F>) -> Range<F>
+        ensures { λ r. ⌜ IsStep (F·Grid .gauge) Least (span (F·Grid .gauge) self) (span (F·Grid .gauge) other) (Ok r) ⌝ }
+    {
+        self.extremes(other, Rounding::Down)
+    }
+
+    // The greater low and the greater high.
+    pub fn max(self, other: Range<F>) -> Range<F>
+        ensures { λ r. ⌜ IsStep (F·Grid .gauge) Greatest (span (F·Grid .gauge) self) (span (F·Grid .gauge) other) (Ok r) ⌝ }
+    {
+        self.extremes(other, Rounding::Up)
+    }
+}
+
+impl<F: Form> Range<F> {
     // Low plus low, down; high plus high, up.
     pub fn sum(self, other: Range<F>) -> Result<Range<F>, Refusal>
         ensures { λ r. ⌜ IsStep (F·Grid .gauge) Plus (span (F·Grid .gauge) self) (span (F·Grid .gauge) other) r ⌝ }
@@ -136,13 +169,6 @@ impl<F: Form> Range<F> {
         Ok(Range { low, high })
     }
 
-    // Whether zero lies between the ends.
-    fn holds_zero(self) -> bool
-        ensures { λ r. ⌜ Decides r (HoldsZero (span (F·Grid .gauge) self)) ⌝ }
-    {
-        around_zero(self.low, self.high) || around_zero(self.high, self.low)
-    }
-
     // The least of the four quotients of ends, down; the greatest, up.
     pub fn quotient(self, other: Range<F>) -> Result<Range<F>, Refusal>
         ensures { λ r. ⌜ IsStep (F·Grid .gauge) Over (span (F·Grid .gauge) self) (span (F·Grid .gauge) other) r ⌝ }
@@ -153,30 +179,6 @@ impl<F: Form> Range<F> {
         let low = self.outer_end(true, other, Rounding::Down)?;
         let high = self.outer_end(true, other, Rounding::Up)?;
         Ok(Range { low, high })
-    }
-
-    // The lesser low and the lesser high, or the greater where rounding is up.
-    fn extremes(self, other: Range<F>, rounding: Rounding) -> Range<F>
-        ensures { λ r. ⌜ IsStep (F·Grid .gauge) (bound rounding) (span (F·Grid .gauge) self) (span (F·Grid .gauge) other) (Ok r) ⌝ }
-    {
-        Range {
-            low: extreme(self.low, other.low, rounding),
-            high: extreme(self.high, other.high, rounding),
-        }
-    }
-
-    // The lesser low and the lesser high.
-    pub fn min(self, other: Range<F>) -> Range<F>
-        ensures { λ r. ⌜ IsStep (F·Grid .gauge) Least (span (F·Grid .gauge) self) (span (F·Grid .gauge) other) (Ok r) ⌝ }
-    {
-        self.extremes(other, Rounding::Down)
-    }
-
-    // The greater low and the greater high.
-    pub fn max(self, other: Range<F>) -> Range<F>
-        ensures { λ r. ⌜ IsStep (F·Grid .gauge) Greatest (span (F·Grid .gauge) self) (span (F·Grid .gauge) other) (Ok r) ⌝ }
-    {
-        self.extremes(other, Rounding::Up)
     }
 
     // The step that a sign asks for.

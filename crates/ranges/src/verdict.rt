@@ -8,6 +8,7 @@ ghost use Rattle.ranges.specs.declared.verdict.Kind.the-variants.{Plain, Root}
 use crate::range::Range;
 use crate::range::zero;
 use numbers::Form;
+use numbers::Grid;
 use numbers::Refusal;
 use numbers::Rounding;
 
@@ -27,7 +28,7 @@ pub enum Verdict {
 }
 
 // Whether x is above zero.
-fn above_zero<F: Form>(x: F) -> bool
+fn above_zero<F: Grid>(x: F) -> bool
     ensures { λ r. ⌜ Decides r (zeroᶠ <ᶠ F·Grid .gauge .meaning x) ⌝ }
 {
     !x.at_most(zero::<F>())
@@ -45,7 +46,7 @@ fn square<F: Form>(x: F, rounding: Rounding) -> Result<F, Refusal>
 }
 
 // Whether the root rule holds; `up` is the square of left's high, where that is above zero.
-fn root_holds<F: Form>(left: Range<F>, right: Range<F>, up: F) -> bool
+fn root_holds<F: Grid>(left: Range<F>, right: Range<F>, up: F) -> bool
     ensures { λ r. ⌜ Decides r (RootHolds (F·Grid .gauge) (span (F·Grid .gauge) left) (span (F·Grid .gauge) right) up) ⌝ }
 {
     let zero = zero::<F>();
@@ -53,14 +54,14 @@ fn root_holds<F: Form>(left: Range<F>, right: Range<F>, up: F) -> bool
 }
 
 // Whether the root rule breaks; `down` is the square of left's low, where that is above zero.
-fn root_breaks<F: Form>(left: Range<F>, right: Range<F>, down: F) -> bool
+fn root_breaks<F: Grid>(left: Range<F>, right: Range<F>, down: F) -> bool
     ensures { λ r. ⌜ Decides r (RootBreaks (F·Grid .gauge) (span (F·Grid .gauge) left) (span (F·Grid .gauge) right) down) ⌝ }
 {
     let zero = zero::<F>();
     !zero.at_most(right.high) || (!left.low.at_most(zero) && !down.at_most(right.high))
 }
 
-fn judge_plain<F: Form>(left: Range<F>, right: Range<F>) -> Verdict
+fn judge_plain<F: Grid>(left: Range<F>, right: Range<F>) -> Verdict
     ensures { λ r. ⌜ Judges (F·Grid .gauge) Plain (span (F·Grid .gauge) left) (span (F·Grid .gauge) right) (Ok r) ⌝ }
 {
     if left.high.at_most(right.low) {

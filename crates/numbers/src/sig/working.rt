@@ -2,7 +2,7 @@
 ghost use mathlib.Core.Path.{_≡_};
 ghost use Prim.Native.Nat.{_≤_, _<_, _*_, _^_};
 ghost use lib.IntN.{pos, natAbs, _*ℤ_};
-ghost use Rattle.numbers.specs.Fractions.{over, millionths};
+ghost use Rattle.numbers.specs.Fractions.{_≈ᶠ_, over, millionths};
 ghost use Rattle.numbers.specs.Grids.{IsRounded, Answers, Compares, Takes, Shows, Adds, Multiplies, Divides};
 ghost use Rattle.numbers.specs.Forms.{sig};
 use crate::grid::Form;
@@ -98,7 +98,7 @@ impl Sig {
 
     // The value in millionths, exactly.
     pub fn millionths(self) -> i64
-        ensures { λ r. ⌜ r ≡ self .mantissa *ℤ pos (10 ^ self .exponent) ⌝ }
+        ensures { λ r. ⌜ sig .meaning self ≈ᶠ millionths r ⌝ }
     {
         Sig::count(self)
     }
