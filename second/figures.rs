@@ -86,6 +86,8 @@ impl Form {
         let mut all: Vec<Frac> = match sign {
             '+' => vec![a.0.apply('+', b.0), a.1.apply('+', b.1)],
             '-' => vec![a.0.apply('-', b.1), a.1.apply('-', b.0)],
+            'm' => vec![if a.0.at_most(b.0) { a.0 } else { b.0 }, if a.1.at_most(b.1) { a.1 } else { b.1 }],
+            'M' => vec![if a.0.at_most(b.0) { b.0 } else { a.0 }, if a.1.at_most(b.1) { b.1 } else { a.1 }],
             _ => [(a.0, b.0), (a.0, b.1), (a.1, b.0), (a.1, b.1)].iter().map(|(x, y)| x.apply(sign, *y)).collect(),
         };
         all.sort_by(|x, y| x.compare(*y));
@@ -142,7 +144,12 @@ fn chain(form: &Form, first: (&str, i128, i128), rest: &[(char, &str, i128, i128
     let mut sum = false;
     for (sign, name, low, high) in rest {
         let open = sum && (*sign == '*' || *sign == '/');
-        text = if open { format!("({text}){sign}{name}") } else { format!("{text}{sign}{name}") };
+        text = match sign {
+            'm' => format!("min({text},{name})"),
+            'M' => format!("max({text},{name})"),
+            _ if open => format!("({text}){sign}{name}"),
+            _ => format!("{text}{sign}{name}"),
+        };
         sum = *sign == '+' || *sign == '-';
         range = range.and_then(|r| form.step(r, *sign, form.take(*low, *high)));
         println!("  {text:<16} {}", shown(range));
@@ -176,16 +183,21 @@ fn main() {
     if std::env::args().nth(1).as_deref() == Some("edges") {
         return edges();
     }
-    println!("A slab 10 to 10.25 in thick, clear span 72 in. Rule slender: 12*lu*lu <= 34*34*h*h");
+    println!("A slab of thickness h, clear span lu, in inches. Rule slender: 12*lu*lu <= 34*34*h*h");
     for form in &forms() {
         println!("in {}:", form.name);
-        println!("  {:<16} {}", "h", shown(Ok(form.take(10_000, 10_250))));
-        println!("  {:<16} {}", "lu", shown(Ok(form.take(72_000, 72_000))));
-        let left = chain(form, ("12", 12_000, 12_000), &[('*', "lu", 72_000, 72_000), ('*', "lu", 72_000, 72_000)]).unwrap();
-        let right = chain(form, ("34", 34_000, 34_000), &[('*', "34", 34_000, 34_000), ('*', "h", 10_000, 10_250), ('*', "h", 10_000, 10_250)]).unwrap();
-        println!("  {:<16} {}", "slender", form.plain(left, right));
+        for (low, high) in [(10_000, 10_250), (7_000, 7_500), (6_000, 6_000)] {
+            println!("  {:<16} {}", "h", shown(Ok(form.take(low, high))));
+            println!("  {:<16} {}", "lu", shown(Ok(form.take(72_000, 72_000))));
+            let left = chain(form, ("12", 12_000, 12_000), &[('*', "lu", 72_000, 72_000), ('*', "lu", 72_000, 72_000)]).unwrap();
+            let right = chain(form, ("34", 34_000, 34_000), &[('*', "34", 34_000, 34_000), ('*', "h", low, high), ('*', "h", low, high)]).unwrap();
+            println!("  {:<16} {}", "slender", form.plain(left, right));
+        }
         let _ = chain(form, ("2", 2_000, 2_000), &[('/', "3", 3_000, 3_000)]);
         let _ = chain(form, ("0", 0, 0), &[('-', "2", 2_000, 2_000), ('/', "3", 3_000, 3_000)]);
+        for sign in ['m', 'M', '+'] {
+            let _ = chain(form, ("[1,4]", 1_000, 4_000), &[(sign, "[2,3]", 2_000, 3_000)]);
+        }
         let _ = chain(form, ("[-2,3]", -2_000, 3_000), &[('*', "[-4,5]", -4_000, 5_000)]);
         let _ = chain(form, ("750000", 750_000_000, 750_000_000), &[('*', "4", 4_000, 4_000)]);
         let _ = chain(form, ("750000", 750_000_000, 750_000_000), &[('*', "4.001", 4_001, 4_001)]);

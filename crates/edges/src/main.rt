@@ -11,8 +11,11 @@ use ranges::Range;
 use ranges::Sign;
 use std::error::AnyError;
 
-// The value mantissa * 10^exponent, where sig has it.
+// The value mantissa * 10^exponent, where it is one of sig's.
 fn value(mantissa: i32, exponent: i32) -> Option<Sig> {
+    if mantissa < -999_999 || 999_999 < mantissa || exponent < -6 || 6 < exponent {
+        return None;
+    }
     let ten = Sig::take(Thousandths::new(10_000)?, Rounding::Down);
     let count = Thousandths::new(mantissa.checked_mul(1000)?)?;
     let mut value = Sig::take(count, Rounding::Down);
@@ -60,7 +63,10 @@ fn read(line: &str) -> Option<Row> {
     let mantissa = words.next()?.parse::<i32>().ok()?;
     let exponent = words.next()?.parse::<i32>().ok()?;
     let right = point(value(mantissa, exponent)?);
-    Some(Row { left, sign, right })
+    match words.next() {
+        None => Some(Row { left, sign, right }),
+        Some(_) => None,
+    }
 }
 
 fn print_line(rt: &LibcRuntime, line: &str) -> Result<(), AnyError> {

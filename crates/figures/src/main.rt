@@ -45,7 +45,7 @@ fn print_ends(
     Ok(())
 }
 
-// Prints a working step by step, by the names of its entries.
+// Prints a working step by step, with a name for its first entry and for each that a link brings.
 fn print_working(
     rt: &LibcRuntime,
     form: FormName,
@@ -53,13 +53,13 @@ fn print_working(
     first: &str,
     names: &[&str],
 ) -> Result<(), AnyError> {
+    if names.len() != working.links.len() {
+        return Err("a working has another count of links than of names".into());
+    }
     let heap = rt.alloc();
     let mut formula = String::from_str(heap, first)?;
     let mut sum = false;
     for (i, name) in names.iter().enumerate() {
-        if i >= working.links.len() {
-            break;
-        }
         let sign = working.links[i].sign;
         formula = joined(heap, formula.as_str(), sum, sign, name)?;
         sum = matches!(sign, Sign::Plus | Sign::Minus);
@@ -99,9 +99,8 @@ fn link(sign: Sign, entry: Entry) -> Link {
     Link { sign, entry }
 }
 
-// A slab that leaves the form 10 to 10.25 inches thick, over a clear span of 72 inches: 12*lu*lu <= 34*34*h*h.
-fn print_slab(rt: &LibcRuntime, form: FormName) -> Result<(), AnyError> {
-    let h = typed(10_000, 10_250)?;
+// The slenderness of a slab of that thickness over a clear span of 72 inches: 12*lu*lu <= 34*34*h*h.
+fn print_slab(rt: &LibcRuntime, form: FormName, h: Entry) -> Result<(), AnyError> {
     let lu = typed(72_000, 72_000)?;
     let limit = typed(34_000, 34_000)?;
     let left = Working {
@@ -123,6 +122,13 @@ fn print_slab(rt: &LibcRuntime, form: FormName) -> Result<(), AnyError> {
     print_verdict(rt, "slender", verdict(form, Kind::Plain, left, right))
 }
 
+// Slabs 10 to 10.25 inches thick, 7 to 7.5, and 6.
+fn print_slabs(rt: &LibcRuntime, form: FormName) -> Result<(), AnyError> {
+    print_slab(rt, form, typed(10_000, 10_250)?)?;
+    print_slab(rt, form, typed(7_000, 7_500)?)?;
+    print_slab(rt, form, typed(6_000, 6_000)?)
+}
+
 // Two thirds, above zero and below.
 fn print_thirds(rt: &LibcRuntime, form: FormName) -> Result<(), AnyError> {
     let two = typed(2_000, 2_000)?;
@@ -137,6 +143,20 @@ fn print_thirds(rt: &LibcRuntime, form: FormName) -> Result<(), AnyError> {
     };
     print_working(rt, form, above, "2", &["3"])?;
     print_working(rt, form, below, "0", &["2", "3"])
+}
+
+// The lesser and the greater ends of two ranges, and their sum.
+fn print_bounds(rt: &LibcRuntime, form: FormName) -> Result<(), AnyError> {
+    let first = typed(1_000, 4_000)?;
+    let second = typed(2_000, 3_000)?;
+    for sign in [Sign::Least, Sign::Greatest, Sign::Plus] {
+        let working = Working {
+            first,
+            links: &[link(sign, second)],
+        };
+        print_working(rt, form, working, "[1,4]", &["[2,3]"])?;
+    }
+    Ok(())
 }
 
 // A product of ranges across zero, two products at the reach of mil, and a root of which the left side is below zero.
@@ -169,13 +189,14 @@ fn print_edges(rt: &LibcRuntime, form: FormName) -> Result<(), AnyError> {
 fn run(rt: &LibcRuntime) -> Result<(), AnyError> {
     println!(
         rt,
-        "A slab 10 to 10.25 in thick, clear span 72 in. Rule slender: 12*lu*lu <= 34*34*h*h"
+        "A slab of thickness h, clear span lu, in inches. Rule slender: 12*lu*lu <= 34*34*h*h"
     )?;
     for form in [FormName::Mil, FormName::Sig] {
         let name = form_word(form);
         println!(rt, "in {name}:")?;
-        print_slab(rt, form)?;
+        print_slabs(rt, form)?;
         print_thirds(rt, form)?;
+        print_bounds(rt, form)?;
         print_edges(rt, form)?;
     }
     Ok(())
