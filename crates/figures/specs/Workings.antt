@@ -1,5 +1,4 @@
 -- Workings from the left, and what they come to in a form. Assumes nothing.
-use mathlib.Core.Path.{_≡_}
 use mathlib.Core.List.{List, [], _∷_}
 use lib.IntN.{ℤ}
 use Rattle.std.specs.declared.result.Result.{Result}

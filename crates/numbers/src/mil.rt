@@ -1,5 +1,4 @@
 // The form "mil": every multiple of 1/1000 up to a top of 3,000,000.
-ghost use mathlib.Core.Path.{_≡_};
 ghost use Prim.Native.Nat.{_≤_};
 ghost use lib.IntN.{natAbs};
 ghost use Rattle.numbers.specs.Steps.{mil-steps};

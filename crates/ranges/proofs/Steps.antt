@@ -18,7 +18,7 @@ use Rattle.ranges.specs.declared.range.Range.{Range}
 use Rattle.numbers.specs.Grids.{Gauge, InReach, Beyond, IsGrid}
 use Rattle.ranges.specs.Ranges.{Interval, span, _∈ᶠ_, Inside, Covers, corners, ends, Undefined, combine, IsStep, Sound-step, Narrowest-step, Tight-step, Step-promise}
 use Rattle.numbers.proofs.Roundings.{not-beyond}
-use Rattle.numbers.proofs.Orders.{≤ᶠ-refl, ≤ᶠ-trans, clashᶠ, plus-le, minus-le, min-ind, max-ind, min-le, max-le, between-up, corners-times, between-inverse}
+use Rattle.numbers.proofs.Orders.{≤ᶠ-refl, ≤ᶠ-trans, plus-le, minus-le, min-ind, max-ind, min-le, max-le, between-up, corners-times, between-inverse}
 use Rattle.ranges.proofs.Computed.{step-agrees}
 
 -- the value of a step at two fractions, where a divisor is not zero
