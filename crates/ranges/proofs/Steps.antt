@@ -16,7 +16,7 @@ use Rattle.numbers.specs.declared.grid.Refusal.{Refusal}
 use Rattle.numbers.specs.declared.grid.Refusal.the-variants.{BeyondReach, ZeroDivisor}
 use Rattle.ranges.specs.declared.range.Range.{Range}
 use Rattle.numbers.specs.Grids.{Gauge, InReach, Beyond, IsGrid}
-use Rattle.ranges.specs.Ranges.{Interval, span, _∈ᶠ_, Inside, Covers, corners, ends, Undefined, combine, IsStep, Sound-step, Narrowest-step, Tight-step, Step-promise}
+use Rattle.ranges.specs.Ranges.{Interval, span, _∈ᶠ_, Inside, Covers, corners, ends, Undefined, combine, IsStep, Zero-refused, Sound-step, Narrowest-step, Tight-step, Step-promise}
 use Rattle.numbers.proofs.Roundings.{not-beyond}
 use Rattle.numbers.proofs.Orders.{≤ᶠ-refl, ≤ᶠ-trans, plus-le, minus-le, min-ind, max-ind, min-le, max-le, between-up, corners-times, between-inverse}
 use Rattle.ranges.proofs.Computed.{step-agrees}
@@ -166,6 +166,24 @@ module _ {V : Type 0} (G : Gauge V) where
   pub tight-step : (s : Sign) (a b : Interval) (o : Result (Range V) Refusal) → IsStep G s a b o → Tight-step G s a b o
   tight-step s a b o w a⁺ b⁺ r⁺ i j w⁺ = step-tight s a⁺ a b⁺ b r⁺ o i j w⁺ w
 
+  -- in a range whose low is not above its high
+  zero-within : (s : Sign) (b : Interval) → b .low ≤ᶠ b .high → Undefined s b → (s ≡ Over) × zeroᶠ ∈ᶠ b
+  zero-within Plus b h u = absurd u
+  zero-within Minus b h u = absurd u
+  zero-within Times b h u = absurd u
+  zero-within Over b h (inl u) = (refl, u)
+  zero-within Over b h (inr u) = (refl, (≤ᶠ-trans h (u .0), ≤ᶠ-trans (u .1) h))
+  zero-within Least b h u = absurd u
+  zero-within Greatest b h u = absurd u
+
+  zero-refused : (s : Sign) (a b : Interval) (o : Result (Range V) Refusal) → IsStep G s a b o → Zero-refused s b o
+  zero-refused s a b o w h = (λ e. zero-within s b h (subst (IsStep G s a b) e w), λ e z. go o w (subst (λ t. Undefined t b) (sym e) (inl z)))
+    where
+      go : (o : Result (Range V) Refusal) → IsStep G s a b o → Undefined s b → o ≡ Err ZeroDivisor
+      go (Ok r) w u = absurd (w .0 u)
+      go (Err BeyondReach) w u = absurd (w .0 u)
+      go (Err ZeroDivisor) w u = refl
+
   narrowest-step : (s : Sign) (a b : Interval) (o : Result (Range V) Refusal) → IsStep G s a b o → Narrowest-step G s a b o
   narrowest-step s a b (Ok r) w = λ c h k holds.
       let own-a : Inside a a = (≤ᶠ-refl (a .low), h, ≤ᶠ-refl (a .high)) in
@@ -176,4 +194,4 @@ module _ {V : Type 0} (G : Gauge V) where
   narrowest-step s a b (Err e) w = tt
 
   pub step-promise : IsGrid G → (s : Sign) (a b : Interval) (o : Result (Range V) Refusal) → IsStep G s a b o → Step-promise G s a b o
-  step-promise grid s a b o w = record { answer = w; sound = sound-step s a b o w; narrowest = narrowest-step s a b o w; tight = tight-step s a b o w; computed = step-agrees G grid s a b o w }
+  step-promise grid s a b o w = record { answer = w; zero = zero-refused s a b o w; sound = sound-step s a b o w; narrowest = narrowest-step s a b o w; tight = tight-step s a b o w; computed = step-agrees G grid s a b o w }

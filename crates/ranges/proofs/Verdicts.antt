@@ -1,6 +1,8 @@
 -- A verdict that holds over ranges is true, and one that breaks is false, at every choice within them; narrower ranges keep the verdict. Assumes nothing.
 use mathlib.Core.Path.{_≡_, refl}
 use mathlib.Core.Logic.{_⊎_, inl, inr}
+use Prim.Native.Nat.{ℕ}
+use native.Mathlib.Omega.{arith}
 use Rattle.std.specs.declared.result.Result.{Result}
 use Rattle.std.specs.declared.result.Result.the-variants.{Ok, Err}
 use Rattle.numbers.specs.Fractions.{Fraction, zeroᶠ, _≤ᶠ_, _<ᶠ_, _*ᶠ_}
@@ -12,7 +14,7 @@ use Rattle.ranges.specs.declared.verdict.Kind.{Kind}
 use Rattle.ranges.specs.declared.verdict.Kind.the-variants.{Plain, Root}
 use Rattle.ranges.specs.declared.verdict.Verdict.{Verdict}
 use Rattle.ranges.specs.declared.verdict.Verdict.the-variants.{Holds, Breaks, Open}
-use Rattle.ranges.specs.Verdicts.{TrueOf, Judged, Squares, Bursts, SquareBeyond, RootHolds, RootBreaks, Judges, Says, Keeps, Sound-verdict, Tight-verdict, Verdict-promise}
+use Rattle.ranges.specs.Verdicts.{TrueOf, Judged, Squares, Bursts, SquareBeyond, RootHolds, RootBreaks, Judges, Says, Keeps, Square-refused, Apart, Sound-verdict, Tight-verdict, Verdict-promise}
 use Rattle.numbers.proofs.Orders.{≤ᶠ-trans, <ᶠ-≤ᶠ-trans, ≤ᶠ-<ᶠ-trans, below-le, clashᶠ, byᶠ, times-nonneg, nonneg-product, times-comm, neg-le}
 use Rattle.ranges.proofs.Computed.{judge-agrees}
 
@@ -107,5 +109,23 @@ module _ {V : Type 0} (G : Gauge V) where
   pub tight-verdict : (k : Kind) (a b : Interval) (o : Result Verdict Refusal) → Judges G k a b o → Tight-verdict G k a b o
   tight-verdict k a b o w a⁺ b⁺ v i j w⁺ = judge-tight k v o a⁺ a b⁺ b i j w⁺ w
 
+  not-refused : (v : Verdict) → _≡_ {A = Result Verdict Refusal} (Ok v) (Err BeyondReach) → ⊥
+  not-refused v e = let z : _≡_ {A = ℕ} 0 1 = cc in omega arith
+
+  square-refused : (k : Kind) (a b : Interval) (o : Result Verdict Refusal) → Judges G k a b o → Square-refused G k a o
+  square-refused Plain a b (Ok v) w h = (λ e. absurd (not-refused v e), λ e. absurd (no-root e))
+    where
+      no-root : Plain ≡ Root → ⊥
+      no-root e = let z : _≡_ {A = ℕ} 0 1 = cc in omega arith
+  square-refused Plain a b (Err e) w h = absurd w
+  square-refused Root a b (Ok v) w h = (λ e. absurd (not-refused v e), λ _ x. absurd (w .0 (inl x)))
+  square-refused Root a b (Err BeyondReach) (inl x) h = (λ _. (refl, x), λ _ _. refl)
+  square-refused Root a b (Err BeyondReach) (inr x) h = (λ _. (refl, bursts-more h x), λ _ _. refl)
+  square-refused Root a b (Err ZeroDivisor) w h = absurd w
+
+  apart : (k : Kind) (a b : Interval) → Apart G k a b
+  apart Plain a b = λ h k x y. clashᶠ y (≤ᶠ-trans h (≤ᶠ-trans x k))
+  apart Root a b = λ h k s x y. never-both a b s h k x y
+
   pub verdict-promise : IsGrid G → (k : Kind) (a b : Interval) (o : Result Verdict Refusal) → Judges G k a b o → Verdict-promise G k a b o
-  verdict-promise grid k a b o w = record { answer = w; sound = sound-verdict k a b o w; tight = tight-verdict k a b o w; computed = judge-agrees G grid k a b o w }
+  verdict-promise grid k a b o w = record { answer = w; square = square-refused k a b o w; apart = apart k a b; sound = sound-verdict k a b o w; tight = tight-verdict k a b o w; computed = judge-agrees G grid k a b o w }

@@ -56,7 +56,7 @@ ends Over a b = corners _÷ᶠ_ a b
 ends Least a b = record { low = minᶠ (a .low) (b .low); high = minᶠ (a .high) (b .high) }
 ends Greatest a b = record { low = maxᶠ (a .low) (b .low); high = maxᶠ (a .high) (b .high) }
 
--- zero lies between the ends, in either order: in a range whose low is not above its high, low is at most zero and high at least
+-- zero lies between the ends, in either order; `Zero-refused` says it of a range whose low is not above its high
 abbrev pub HoldsZero : Interval → Type 0
 HoldsZero b = ((b .low ≤ᶠ zeroᶠ) × (zeroᶠ ≤ᶠ b .high)) ⊎ ((b .high ≤ᶠ zeroᶠ) × (zeroᶠ ≤ᶠ b .low))
 
@@ -90,6 +90,10 @@ combine Greatest p q = Some (maxᶠ p q)
 abbrev pub Sound-step : {V : Type 0} → Gauge V → Sign → Interval → Interval → Result (Range V) Refusal → Type 0
 Sound-step G s a b (Ok r) = (p q : Fraction) → p ∈ᶠ a → q ∈ᶠ b → (x : Fraction) × (combine s p q ≡ Some x) × x ∈ᶠ span G r
 Sound-step G s a b (Err e) = Unit {0}
+
+-- a divisor whose low is not above its high: refused as zero exactly where the step is a quotient and the divisor's range holds zero
+abbrev pub Zero-refused : {V : Type 0} → Sign → Interval → Result (Range V) Refusal → Type 0
+Zero-refused s b o = b .low ≤ᶠ b .high → (o ≡ Err ZeroDivisor → (s ≡ Over) × zeroᶠ ∈ᶠ b) × (s ≡ Over → zeroᶠ ∈ᶠ b → o ≡ Err ZeroDivisor)
 
 -- no range of the form that holds the exact result at every choice is narrower
 abbrev pub Narrowest-step : {V : Type 0} → Gauge V → Sign → Interval → Interval → Result (Range V) Refusal → Type 0
@@ -144,6 +148,7 @@ Alike a b = Inside a b × Inside b a
 -- what is promised of a step: its result, the laws, and what computing gives
 pub record Step-promise {V : Type 0} (G : Gauge V) (s : Sign) (a b : Interval) (o : Result (Range V) Refusal) : Type 0 where
   pub answer : IsStep G s a b o
+  pub zero : Zero-refused s b o
   pub sound : Sound-step G s a b o
   pub narrowest : Narrowest-step G s a b o
   pub tight : Tight-step G s a b o

@@ -22,7 +22,7 @@ abbrev pub TrueOf : Kind → Fraction → Fraction → Type 0
 TrueOf Plain l r = l ≤ᶠ r
 TrueOf Root l r = (zeroᶠ ≤ᶠ r) × ((l ≤ᶠ zeroᶠ) ⊎ (l *ᶠ l ≤ᶠ r))
 
--- the verdict where H is when it holds and B when it breaks; of two ranges with low not above high never both are so
+-- the verdict where H is when it holds and B when it breaks; `Apart` says that never both are so of ranges whose low is not above their high
 abbrev pub Judged : Type 0 → Type 0 → Verdict → Type 0
 Judged H B Holds = H
 Judged H B Breaks = (¬ H) × B
@@ -39,7 +39,7 @@ pub record Squares {V : Type 0} (G : Gauge V) (a : Interval) : Type 0 where
 abbrev pub Bursts : {V : Type 0} → Gauge V → Fraction → Type 0
 Bursts G x = (zeroᶠ <ᶠ x) × Beyond G (x *ᶠ x)
 
--- so for an end of the range: in a range whose low is not above its high, that is so for the high end
+-- so for an end of the range; `Square-refused` says it of a range whose low is not above its high
 abbrev pub SquareBeyond : {V : Type 0} → Gauge V → Interval → Type 0
 SquareBeyond G a = Bursts G (a .high) ⊎ Bursts G (a .low)
 
@@ -78,6 +78,15 @@ abbrev pub Sound-verdict : Kind → Interval → Interval → Result Verdict Ref
 Sound-verdict k a b (Ok v) = (l r : Fraction) → l ∈ᶠ a → r ∈ᶠ b → Says k v l r
 Sound-verdict k a b (Err e) = Unit {0}
 
+-- a left side whose low is not above its high: refused exactly where the rule is a root rule, left's high above zero and its square beyond reach
+abbrev pub Square-refused : {V : Type 0} → Gauge V → Kind → Interval → Result Verdict Refusal → Type 0
+Square-refused G k a o = a .low ≤ᶠ a .high → (o ≡ Err BeyondReach → (k ≡ Root) × Bursts G (a .high)) × (k ≡ Root → Bursts G (a .high) → o ≡ Err BeyondReach)
+
+-- of sides whose low is not above their high, a rule does not both hold and break
+abbrev pub Apart : {V : Type 0} → Gauge V → Kind → Interval → Interval → Type 0
+Apart G Plain a b = a .low ≤ᶠ a .high → b .low ≤ᶠ b .high → a .high ≤ᶠ b .low → b .high <ᶠ a .low → ⊥
+Apart G Root a b = a .low ≤ᶠ a .high → b .low ≤ᶠ b .high → (s : Squares G a) → RootHolds G a b (s .up) → RootBreaks G a b (s .down) → ⊥
+
 -- where wider sides are not refused, these are not either, and keep the verdict
 abbrev pub Tight-verdict : {V : Type 0} → Gauge V → Kind → Interval → Interval → Result Verdict Refusal → Type 0
 Tight-verdict G k a b o = (a⁺ b⁺ : Interval) (v : Verdict) → Inside a a⁺ → Inside b b⁺ → Judges G k a⁺ b⁺ (Ok v) → (w : Verdict) × (o ≡ Ok w) × Keeps v w
@@ -109,6 +118,8 @@ judged G Root a b = cond (bursts G (a .high) || bursts G (a .low)) (Err BeyondRe
 -- what is promised of a verdict: which it is, the laws, and what computing gives
 pub record Verdict-promise {V : Type 0} (G : Gauge V) (k : Kind) (a b : Interval) (o : Result Verdict Refusal) : Type 0 where
   pub answer : Judges G k a b o
+  pub square : Square-refused G k a o
+  pub apart : Apart G k a b
   pub sound : Sound-verdict k a b o
   pub tight : Tight-verdict G k a b o
   pub computed : o ≡ judged G k a b
