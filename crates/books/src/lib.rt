@@ -1,4 +1,6 @@
 // Rule books: a draft takes lines, and a closed book takes none.
+#![tactic(auto)]
+
 mod adding;
 mod book;
 mod checks;

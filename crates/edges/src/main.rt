@@ -1,5 +1,7 @@
 // Works lines of two values of sig and a sign between them, and prints the ends of the result in millionths.
 // A value is a mantissa and a power of ten: the line `999999 6 + 1 -6` is 999999 * 10^6 + 1 * 10^-6.
+#![tactic(auto)]
+
 use anyhow::anyhow;
 use numbers::{Form, Grid, Rounding, Sig, Thousandths};
 use ranges::{Range, Sign};

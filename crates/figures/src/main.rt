@@ -1,4 +1,6 @@
 // Works a check of a slab and some figures in both forms, and prints each step.
+#![tactic(auto)]
+
 mod entry;
 mod exact;
 mod figure;

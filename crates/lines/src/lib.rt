@@ -1,4 +1,6 @@
 // The reader of one line of a rule book.
+#![tactic(auto)]
+
 mod number;
 mod reader;
 mod refusal;

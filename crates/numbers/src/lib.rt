@@ -1,4 +1,6 @@
 // Numbers of a finite grid, with results rounded down or up.
+#![tactic(auto)]
+
 mod grid;
 mod mil;
 mod sig;

@@ -1,4 +1,6 @@
 // Ranges of numbers, the steps of a working on them, and verdicts over two ranges.
+#![tactic(auto)]
+
 mod range;
 mod verdict;
 

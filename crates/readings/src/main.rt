@@ -1,5 +1,7 @@
 // Reads drafts of rule books, a line at a time, and prints what becomes of each line, and what each book holds when it is closed.
 // The line `====` closes a draft and opens the next one.
+#![tactic(auto)]
+
 use anyhow::anyhow;
 use books::{Book, Draft, Entry, Line, Name, Needs, Rule, Span, Step};
 use lines::Op;

@@ -1,4 +1,6 @@
 // Sets of the numbers 0 to 63, a bit of a word for each.
+#![tactic(auto)]
+
 ghost use Rattle.std.specs.Prelude.{◌≡◌, ℕ, ◌<◌, false, ◌&&◌, ◌||◌, ◌==◌, nat_lt};
 ghost use Rattle.sets.specs.Members.{bit, has};
 
