@@ -12,8 +12,8 @@ use Rattle.numbers.proofs.steps.product.Goals as goal
 product : (S : Steps) (a b x y : ℤ) → nat_abs a ≤ S.most → nat_abs b ≤ S.most → x ≡ a → y ≡ b → Narrow (to_z w64 (of_z w64 x)) (to_z w64 (of_z w64 y)) a b
 product S a b x y h k e f = narrow (to_z w64 (of_z w64 x)) (to_z w64 (of_z w64 y)) a b (omega (arith, S.narrow)) (omega (arith, S.narrow)) (omega (arith, ints, S.narrow)) (omega (arith, ints, S.narrow))
 
-pub overflow-mul-count : goal.overflow-mul-count
-overflow-mul-count g c = (product g.S.EqualSteps.steps _ _ c.count.result c.count-2.result (g.met.S.EqualSteps.within c.args.left) (g.met.S.EqualSteps.within c.args.right) c.count.ensures c.count-2.ensures).fits
+pub overflow_mul-count : goal.overflow_mul-count
+overflow_mul-count g c = (product g.S.EqualSteps.steps _ _ c.count.result c.count-2.result (g.met.S.EqualSteps.within c.args.left) (g.met.S.EqualSteps.within c.args.right) c.count.ensures c.count-2.ensures).fits
 
 pub rounded-requires : goal.rounded-requires
 rounded-requires g c =

@@ -25,21 +25,21 @@ signed S a b x y m r h k e f kept turned p =
       product = narrow (to_z w64 (of_z w64 m)) (to_z w64 r) m (pos S.per_one) (omega (arith, S.narrow)) (omega (arith, S.wide, S.narrow)) (omega (arith, ints, S.narrow)) (omega (arith, ints, S.wide, S.narrow));
     }
 
-pub overflow-mul-n : goal.overflow-mul-n
-overflow-mul-n g c =
-    (signed g.S.EqualSteps.steps _ _ c.count.result c.count-divisor.result c.signed-by.result c.per_one.result (g.met.S.EqualSteps.within c.args.left) (g.met.S.EqualSteps.within c.args.right) c.count.ensures c.count-divisor.ensures c.signed-by.ensures.kept c.signed-by.ensures.turned c.per_one.ensures).product.fits
+pub overflow_mul-n : goal.overflow_mul-n
+overflow_mul-n g c =
+    (signed g.S.EqualSteps.steps _ _ c.count.result c.count-divisor.result c.signed_by.result c.per_one.result (g.met.S.EqualSteps.within c.args.left) (g.met.S.EqualSteps.within c.args.right) c.count.ensures c.count-divisor.ensures c.signed_by.ensures.kept c.signed_by.ensures.turned c.per_one.ensures).product.fits
 
 pub rounded-requires : goal.rounded-requires
 rounded-requires g c =
     let S = g.S.EqualSteps.steps in
-    let s = signed S _ _ c.count.result c.count-divisor.result c.signed-by.result c.per_one.result (g.met.S.EqualSteps.within c.args.left) (g.met.S.EqualSteps.within c.args.right) c.count.ensures c.count-divisor.ensures c.signed-by.ensures.kept c.signed-by.ensures.turned c.per_one.ensures in
+    let s = signed S _ _ c.count.result c.count-divisor.result c.signed_by.result c.per_one.result (g.met.S.EqualSteps.within c.args.left) (g.met.S.EqualSteps.within c.args.right) c.count.ensures c.count-divisor.ensures c.signed_by.ensures.kept c.signed_by.ensures.turned c.per_one.ensures in
     let b = g.met.S.EqualSteps.within c.args.right in
     record { positive = omega (arith, ints, c.if-divisor-eq0.false); narrow = omega (arith, ints, S.narrow, c.count-divisor.ensures); turns = omega (arith, s.product.small) }
 
 pub returns : goal.returns
 returns g c =
     let S = g.S.EqualSteps.steps in
-    let s = signed S _ _ c.count.result c.count-divisor.result c.signed-by.result c.per_one.result (g.met.S.EqualSteps.within c.args.left) (g.met.S.EqualSteps.within c.args.right) c.count.ensures c.count-divisor.ensures c.signed-by.ensures.kept c.signed-by.ensures.turned c.per_one.ensures in
+    let s = signed S _ _ c.count.result c.count-divisor.result c.signed_by.result c.per_one.result (g.met.S.EqualSteps.within c.args.left) (g.met.S.EqualSteps.within c.args.right) c.count.ensures c.count-divisor.ensures c.signed_by.ensures.kept c.signed_by.ensures.turned c.per_one.ensures in
     let b = g.met.S.EqualSteps.within c.args.right in
-    by_count S.per_one S.some (evenly S g.S.EqualSteps.counts) c.args.rounding (g.S.EqualSteps.counts c.args.left) (g.S.EqualSteps.counts c.args.right) c.signed-by.result _ c.unsigned-abs.result c.rounded.result
+    by_count S.per_one S.some (evenly S g.S.EqualSteps.counts) c.args.rounding (g.S.EqualSteps.counts c.args.left) (g.S.EqualSteps.counts c.args.right) c.signed_by.result _ c.unsigned_abs.result c.rounded.result
     (λ e. omega (arith, ints, c.count-divisor.ensures)) (omega (arith, ints, S.narrow, c.count-divisor.ensures)) s.same s.turned s.product.is c.rounded.ensures

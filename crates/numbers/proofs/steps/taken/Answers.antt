@@ -23,8 +23,8 @@ scaled S t n r few e f =
       few = mul_bound t (pos S.per_one) 999999999 S.per_one small (omega arith);
     }
 
-pub overflow-mul-steps : goal.overflow-mul-steps
-overflow-mul-steps g c = (scaled g.S.EqualSteps.steps c.args.given.count c.count.result c.per_one.result c.args.given.few c.count.ensures c.per_one.ensures).product.fits
+pub overflow_mul-steps : goal.overflow_mul-steps
+overflow_mul-steps g c = (scaled g.S.EqualSteps.steps c.args.given.count c.count.result c.per_one.result c.args.given.few c.count.ensures c.per_one.ensures).product.fits
 
 pub quotient-requires : goal.quotient-requires
 quotient-requires g c =

@@ -10,8 +10,8 @@ back z = to_z w128 (of_z w128 z)
 
 pub returns-in-Down : goal.returns-in-Down
 returns-in-Down c =
-    is_floor c.args.n _ c.div-euclid.result (back c.args.n) (to_z w128 c.args.d) c.args.d
-    c.in-Down.is c.requires.positive c.div-euclid.ensures (omega (arith, ints)) (omega (arith, ints)) (omega (arith, ints))
+    is_floor c.args.n _ c.div_euclid.result (back c.args.n) (to_z w128 c.args.d) c.args.d
+    c.in-Down.is c.requires.positive c.div_euclid.ensures (omega (arith, ints)) (omega (arith, ints)) (omega (arith, ints))
 
 pub returns-in-Up : goal.returns-in-Up
 returns-in-Up c =
@@ -19,6 +19,6 @@ returns-in-Up c =
     let e : ℤ = to_z w128 c.args.d in
     let same : m ≡ neg_ℤ c.args.n = omega (arith, ints) in
     let divisor : e ≡ pos c.args.d = omega (arith, ints) in
-    is_ceiling c.args.n _ c.div-euclid-in-Up.result m e c.args.d
-    c.in-Up.is c.requires.positive c.div-euclid-in-Up.ensures same divisor
-    (omega (arith, ints, shrinks c.div-euclid-in-Up.result m e (neg_ℤ c.args.n) c.args.d c.div-euclid-in-Up.ensures same divisor))
+    is_ceiling c.args.n _ c.div_euclid-in-Up.result m e c.args.d
+    c.in-Up.is c.requires.positive c.div_euclid-in-Up.ensures same divisor
+    (omega (arith, ints, shrinks c.div_euclid-in-Up.result m e (neg_ℤ c.args.n) c.args.d c.div_euclid-in-Up.ensures same divisor))

@@ -12,7 +12,7 @@ returns c =
     let b : ℤ = count c.args.other in
     let same_a : to_z w64 (of_z w64 c.count.result) ≡ a = omega (arith, ints, c.count.ensures.bound, c.count.ensures.value) in
     let same_b : to_z w64 (of_z w64 c.count-divisor.result) ≡ b = omega (arith, ints, c.count-divisor.ensures.bound, c.count-divisor.ensures.value) in
-    by_count 1000000 (millionths (pos 0)).positive sig c.args.rounding a b c.signed-by.result _ c.unsigned-abs.result c.rounded.result
-    (λ e. omega (arith, ints, c.if-divisor-eq0.false)) (c.unsigned-abs.ensures.value ∙ ap nat_abs same_b)
-    (λ h. c.signed-by.ensures.kept (rw same_b h) ∙ same_a) (λ h. c.signed-by.ensures.turned (rw same_b h) ∙ ap neg_ℤ same_a)
-    (omega (arith, ints, c.signed-by.type-inv)) c.rounded.ensures
+    by_count 1000000 (millionths (pos 0)).positive sig c.args.rounding a b c.signed_by.result _ c.unsigned_abs.result c.rounded.result
+    (λ e. omega (arith, ints, c.if-divisor-eq0.false)) (c.unsigned_abs.ensures.value ∙ ap nat_abs same_b)
+    (λ h. c.signed_by.ensures.kept (rw same_b h) ∙ same_a) (λ h. c.signed_by.ensures.turned (rw same_b h) ∙ ap neg_ℤ same_a)
+    (omega (arith, ints, c.signed_by.type_inv)) c.rounded.ensures

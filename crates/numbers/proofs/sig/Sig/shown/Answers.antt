@@ -10,4 +10,4 @@ pub returns : goal.returns
 returns c =
     let n : ℤ = count c.args.self in
     by_quotient (λ (i : ℤ). i) 1000 (thousandths n).positive c.args.rounding n 1000 (millionths n).positive _
-    (quotient_at c.args.rounding (omega (arith, ints, c.count.type-inv, c.count.ensures.value)) refl (omega (arith, ints)) c.quotient.ensures)
+    (quotient_at c.args.rounding (omega (arith, ints, c.count.type_inv, c.count.ensures.value)) refl (omega (arith, ints)) c.quotient.ensures)

@@ -7,8 +7,8 @@ use Rattle.numbers.specs.Forms.{sig}
 use Rattle.numbers.specs.Sigs.{count}
 use Rattle.numbers.proofs.sig.Sig.sum.Goals as goal
 
-pub overflow-add-sum : goal.overflow-add-sum
-overflow-add-sum c = omega (arith, ints, c.count.ensures.bound, c.count-2.ensures.bound)
+pub overflow_add-sum : goal.overflow_add-sum
+overflow_add-sum c = omega (arith, ints, c.count.ensures.bound, c.count-2.ensures.bound)
 
 pub returns : goal.returns
 returns c =
