@@ -5,6 +5,6 @@ use Rattle.ranges.proofs.verdict.above_zero.Goals as goal
 
 pub returns : goal.returns
 returns g c = (
-  λ t. ≤ᶠ-<ᶠ_trans c.zero.ensures.1 (below_of_not (λ h. both_ways c.at-most.result (not-true c.at-most.result t) (c.at-most.ensures.1 h))),
-  λ p. untrue c.at-most.result (λ e. clashᶠ p (≤ᶠ_trans (c.at-most.ensures.0 e) c.zero.ensures.0)),
+  λ t. ≤ᶠ-<ᶠ_trans c.zero.ensures.1 (below_of_not (λ h. both_ways c.at_most.result (not-true c.at_most.result t) (c.at_most.ensures.1 h))),
+  λ p. untrue c.at_most.result (λ e. clashᶠ p (≤ᶠ_trans (c.at_most.ensures.0 e) c.zero.ensures.0)),
 )

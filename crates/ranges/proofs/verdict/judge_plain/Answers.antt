@@ -3,8 +3,8 @@ use Rattle.std.proofs.lemmas.Bool.{false≢true}
 use Rattle.numbers.specs.Orders.{clashᶠ, below_of_not}
 use Rattle.ranges.proofs.verdict.judge_plain.Goals as goal
 
-pub returns-then-at-most-2 : goal.returns-then-at-most-2
-returns-then-at-most-2 g c = (λ h. false≢true (c.if-at-most.ensures.1 h), λ h. clashᶠ h (c.if-at-most-2.ensures.0 refl))
+pub returns-then-at_most-2 : goal.returns-then-at_most-2
+returns-then-at_most-2 g c = (λ h. false≢true (c.if-at_most.ensures.1 h), λ h. clashᶠ h (c.if-at_most-2.ensures.0 refl))
 
-pub returns-else-at-most-2 : goal.returns-else-at-most-2
-returns-else-at-most-2 g c = (λ h. false≢true (c.if-at-most.ensures.1 h), below_of_not (λ h. false≢true (c.if-at-most-2.ensures.1 h)))
+pub returns-else-at_most-2 : goal.returns-else-at_most-2
+returns-else-at_most-2 g c = (λ h. false≢true (c.if-at_most.ensures.1 h), below_of_not (λ h. false≢true (c.if-at_most-2.ensures.1 h)))
