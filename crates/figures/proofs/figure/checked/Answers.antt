@@ -5,6 +5,6 @@ use Rattle.figures.proofs.figure.checked.Goals as goal
 pub returns : goal.returns
 returns g c =
     let G = g.F.Grid.gauge in
-    sides_judged G g.met.F.Grid.grid c.args.kind c.in-ok-left.left c.in-ok-right.right
+    sides_judged G g.met.F.Grid.grid c.args.kind c.in_ok-left.left c.in_ok-right.right
     (comes G (chained c.args.left.first c.args.left.links.now)) (comes G (chained c.args.right.first c.args.right.links.now)) c.judge.result
-    c.in-ok-left.ensures c.in-ok-right.ensures c.judge.ensures.answer
+    c.in_ok-left.ensures c.in_ok-right.ensures c.judge.ensures.answer

@@ -7,5 +7,5 @@ use Rattle.figures.proofs.figure.read.Goals as goal
 pub returns : goal.returns
 returns g c =
     let G = g.F.Grid.gauge in
-    reads G g.met.F.Grid.grid c.in-ok-range.range (comes G (chained c.args.working.first c.args.working.links.now)) _ c.in-ok-range.ensures c.exact.ensures c.exact-2.ensures
-    (omega (arith, ints, c.exact.type-inv)) (omega (arith, ints, c.exact-2.type-inv))
+    reads G g.met.F.Grid.grid c.in_ok-range.range (comes G (chained c.args.working.first c.args.working.links.now)) _ c.in_ok-range.ensures c.exact.ensures c.exact-2.ensures
+    (omega (arith, ints, c.exact.type_inv)) (omega (arith, ints, c.exact-2.type_inv))

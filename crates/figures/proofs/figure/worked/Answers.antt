@@ -14,16 +14,16 @@ loop-link-preserved g c =
     let all = c.args.working.links.now in
     let chain = chained c.args.working.first all in
     let done = goes_on g.F.Grid.gauge g.met.F.Grid.grid chain c.loop-link.range c.taken.result c.link-item.result all c.loop-link.link-index c.step.result (omega arith) c.link-item.is c.loop-link.invariant c.taken.ensures c.step.ensures.answer in
-    subst (After g.F.Grid.gauge g.met.F.Grid.grid chain (drop (c.loop-link.link-index + 1) all)) c.in-ok-range.was done
+    subst (After g.F.Grid.gauge g.met.F.Grid.grid chain (drop (c.loop-link.link-index + 1) all)) c.in_ok-range.was done
 
-pub returns-in-err-range : goal.returns-in-err-range
-returns-in-err-range g c =
+pub returns-in_err-range : goal.returns-in_err-range
+returns-in_err-range g c =
     let all = c.args.working.links.now in
     let chain = chained c.args.working.first all in
     let done = goes_on g.F.Grid.gauge g.met.F.Grid.grid chain c.loop-link.range c.taken.result c.link-item.result all c.loop-link.link-index c.step.result (omega arith) c.link-item.is c.loop-link.invariant c.taken.ensures c.step.ensures.answer in
-    let p = err_from_is_err_and c.from-residual.result c.from-residual.ensures.1 in
+    let p = err_from_is_err_and c.from_residual.result c.from_residual.ensures.1 in
     subst (λ o. Related (λ x. Alike (span g.F.Grid.gauge x)) o (comes g.F.Grid.gauge chain)) (sym (p.1 ∙ ap Err p.2))
-    (subst (After g.F.Grid.gauge g.met.F.Grid.grid chain (drop (c.loop-link.link-index + 1) all)) c.in-err-range.was done)
+    (subst (After g.F.Grid.gauge g.met.F.Grid.grid chain (drop (c.loop-link.link-index + 1) all)) c.in_err-range.was done)
 
 pub returns : goal.returns
 returns g c =
