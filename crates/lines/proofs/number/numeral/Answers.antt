@@ -27,6 +27,6 @@ few-count-requires-2 c =
 pub returns : goal.returns
 returns c =
     let bs = c.args.bytes.now in
-    let tail = c.split-at-2.ensures.back ∙ ap (drop 1) c.split-at.ensures.back in
-    let p = point bs _ _ c.run-len-n.ensures.value c.split-at.ensures.front _ _ _ tail c.run-len-m.ensures.value c.split-at-3.ensures.front (sym c.byte-at.ensures.value ∙ c.if-byte-at-ne46.false) in
-    record { len = p.0; count = c.few-count-2.ensures ∙ ap (λ t. cond t (Some (counted c.split-at.result.0.now c.split-at-3.result.0.now)) None) c.few-digits.ensures.value ∙ p.1; bound = search rules }
+    let tail = c.split_at-2.ensures.back ∙ ap (drop 1) c.split_at.ensures.back in
+    let p = point bs _ _ c.run_len-n.ensures.value c.split_at.ensures.front _ _ _ tail c.run-len-m.ensures.value c.split-at-3.ensures.front (sym c.byte-at.ensures.value ∙ c.if-byte-at-ne46.false) in
+    record { len = p.0; count = c.few-count-2.ensures ∙ ap (λ t. cond t (Some (counted c.split_at.result.0.now c.split-at-3.result.0.now)) None) c.few-digits.ensures.value ∙ p.1; bound = search rules }

@@ -29,7 +29,7 @@ sum-returns-in-err-at-2 t c =
 pub sum-loop-op-preserved : goal.sum-loop-op-preserved
 sum-loop-op-preserved t c =
     let a = c.in-Some.ensures in (
-      λ b first. sum_more (c.loop-op.invariant.0 b first) (at_sign c.next-token-after.ensures.parts a.1) a.2 c.in-ok-at-2.ensures.reads (one_step c.args.line.now _ _ _ c.push-reserved.ensures.items),
+      λ b first. sum_more (c.loop-op.invariant.0 b first) (at_sign c.next_token-after.ensures.parts a.1) a.2 c.in_ok-at-2.ensures.reads (one_step c.args.line.now _ _ _ c.push_reserved.ensures.items),
       search rules,
       search rules,
       search rules,
@@ -58,7 +58,7 @@ product-returns-in-err-at-2 t c =
 pub product-loop-op-preserved : goal.product-loop-op-preserved
 product-loop-op-preserved t c =
     let a = c.in-Some.ensures in (
-      λ b first. product_more (c.loop-op.invariant.0 b first) (at_sign c.next-token-after.ensures.parts a.1) a.2 c.in-ok-at-2.ensures.reads (one_step c.args.line.now _ _ _ c.push-reserved.ensures.items),
+      λ b first. product_more (c.loop-op.invariant.0 b first) (at_sign c.next_token-after.ensures.parts a.1) a.2 c.in_ok-at-2.ensures.reads (one_step c.args.line.now _ _ _ c.push_reserved.ensures.items),
       search rules,
       search rules,
       search rules,
@@ -67,9 +67,9 @@ product-loop-op-preserved t c =
 
 pub factor-returns-in-Number : goal.factor-returns-in-Number
 factor-returns-in-Number t c =
-    let here = at_number c.next-token-after.ensures.parts (ap tok c.in-Number.is) in
+    let here = at_number c.next_token-after.ensures.parts (ap tok c.in-Number.is) in
     record {
-      reads = reads_number here (one_step c.args.line.now _ _ _ c.push-reserved.ensures.items);
+      reads = reads_number here (one_step c.args.line.now _ _ _ c.push_reserved.ensures.items);
       bound = search rules;
       capacity = search rules;
     }
@@ -77,10 +77,10 @@ factor-returns-in-Number t c =
 pub factor-returns-in-Name : goal.factor-returns-in-Name
 factor-returns-in-Name t c =
     let line = c.args.line.now in
-    let lies = subst (Placed line) c.in-Word.is c.next-token-after.ensures.lies in
-    let here = at_word c.next-token-after.ensures.parts (ap tok c.in-Word.is) in
+    let lies = subst (Placed line) c.in-Word.is c.next_token-after.ensures.lies in
+    let here = at_word c.next_token-after.ensures.parts (ap tok c.in-Word.is) in
     record {
-      reads = reads_name here (sym c.in-Name.ensures) (one_step line _ _ _ c.push-reserved-in-Name.ensures.items ∙ sym (λ i. items line (vec_items c.args.out.now) ++ Item.name (c.place-of.ensures line lies i) ∷ []));
+      reads = reads_name here (sym c.in-Name.ensures) (one_step line _ _ _ c.push_reserved-in-Name.ensures.items ∙ sym (λ i. items line (vec_items c.args.out.now) ++ Item.name (c.place_of.ensures line lies i) ∷ []));
       bound = search rules;
       capacity = search rules;
     }
@@ -88,7 +88,7 @@ factor-returns-in-Name t c =
 pub factor-returns-in-Min : goal.factor-returns-in-Min
 factor-returns-in-Min t c =
     let line = c.args.line.now in
-    let here = at_word c.next-token-after.ensures.parts (ap tok c.in-Word.is) in
+    let here = at_word c.next_token-after.ensures.parts (ap tok c.in-Word.is) in
     record {
       reads = subst (λ from. MatchResult c.pair.result (λ to. Reads Factor [] c.args.left from (parts (drop to line)) (items line (vec_items c.args.out.now)) (items line (vec_items c.pair.new.out))) (λ e. Refuses c.args.left from e)) (sym here) (c.pair.ensures.reads c.in-Word.word.text.now (subst (λ x. Function x op.Min) c.in-Min.ensures Function.least));
       bound = search rules;
@@ -98,7 +98,7 @@ factor-returns-in-Min t c =
 pub factor-returns-in-Max : goal.factor-returns-in-Max
 factor-returns-in-Max t c =
     let line = c.args.line.now in
-    let here = at_word c.next-token-after.ensures.parts (ap tok c.in-Word.is) in
+    let here = at_word c.next_token-after.ensures.parts (ap tok c.in-Word.is) in
     record {
       reads = subst (λ from. MatchResult c.pair-in-Max.result (λ to. Reads Factor [] c.args.left from (parts (drop to line)) (items line (vec_items c.args.out.now)) (items line (vec_items c.pair-in-Max.new.out))) (λ e. Refuses c.args.left from e)) (sym here) (c.pair-in-Max.ensures.reads c.in-Word.word.text.now (subst (λ x. Function x op.Max) c.in-Max.ensures Function.greatest));
       bound = search rules;
@@ -108,7 +108,7 @@ factor-returns-in-Max t c =
 pub group-returns : goal.group-returns
 group-returns t c =
     let less : suc (c.args.left - 1) ≡ c.args.left = omega arith in
-    let inner = c.in-ok-at.ensures.reads in
+    let inner = c.in_ok-at.ensures.reads in
     record {
       reads = MatchResult-weaker c.expect.result c.expect.ensures.sign (λ to e. reads_group less inner e) (λ e p. group_unclosed less e p.0 inner p.1);
       bound = search rules;
@@ -127,7 +127,7 @@ pair-returns-in-err-first t c =
 pub pair-returns-then-left-eq0 : goal.pair-returns-then-left-eq0
 pair-returns-then-left-eq0 t c =
     record {
-      reads = λ w f. pair_nested w f c.args.left _ _ c.in-ok-first.ensures.sign c.if-left-eq0.true;
+      reads = λ w f. pair_nested w f c.args.left _ _ c.in_ok-first.ensures.sign c.if-left-eq0.true;
       bound = search rules;
       capacity = search rules;
     }
@@ -174,7 +174,7 @@ pub pair-returns : goal.pair-returns
 pair-returns t c =
     let less : suc (c.args.left - 1) ≡ c.args.left = omega arith in
     record {
-      reads = λ w f. reads_pair w f less c.in-ok-first.ensures.sign c.in-ok-comma.ensures.reads c.in-ok-second.ensures.sign c.in-ok-close.ensures.reads c.in-ok-end.ensures.sign (one_step c.args.line.now _ _ _ c.push-reserved.ensures.items);
+      reads = λ w f. reads_pair w f less c.in_ok-first.ensures.sign c.in_ok-comma.ensures.reads c.in_ok-second.ensures.sign c.in-ok-close.ensures.reads c.in-ok-end.ensures.sign (one_step c.args.line.now _ _ _ c.push-reserved.ensures.items);
       bound = search rules;
       capacity = search rules;
     }

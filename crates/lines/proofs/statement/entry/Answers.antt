@@ -26,7 +26,7 @@ returns-in-err-end c =
 
 pub returns : goal.returns
 returns c =
-    let x = c.in-ok-place.ensures.name in
-    let y = c.in-ok-unit.ensures.unit in
-    let e = c.in-ok-end.ensures in
+    let x = c.in_ok-place.ensures.name in
+    let y = c.in_ok-unit.ensures.unit in
+    let e = c.in_ok-end.ensures in
     (λ k kw. (is_entry x.1 x.2 x.3 y.1 y.2 e k kw, refl), named State.entry_name State.entry_unit refl x.1 x.2 ∙ ap (outcome State.entry_unit) y.1 ∙ by_word few State.entry_unit y.0 _ y.2 ∙ ap (outcome State.done) e)

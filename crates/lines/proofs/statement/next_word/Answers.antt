@@ -6,8 +6,8 @@ use Rattle.lines.proofs.statement.next_word.Goals as goal
 pub returns-in-Word : goal.returns-in-Word
 returns-in-Word c =
     let line = c.args.line.now in
-    let lies = subst (Placed line) c.in-Word.is c.next-token-after.ensures.lies in
+    let lies = subst (Placed line) c.in-Word.is c.next_token-after.ensures.lies in
     record {
-      word = (c.in-Word.part.text.now, at_word c.next-token-after.ensures.parts (ap tok c.in-Word.is), sym c.word-of.ensures, c.place-of.ensures line lies);
+      word = (c.in-Word.part.text.now, at_word c.next_token-after.ensures.parts (ap tok c.in-Word.is), sym c.word_of.ensures, c.place_of.ensures line lies);
       bound = search rules;
     }
