@@ -7,19 +7,19 @@ use Rattle.std.proofs.lemmas.Str.{digit_value_digit}
 use Rattle.lines.proofs.Counts.{value_under, digits_take}
 use Rattle.lines.proofs.number.digits_value.Goals as goal
 
-pub overflow-mul-n : goal.overflow-mul-n
-overflow-mul-n c =
+pub overflow_mul-n : goal.overflow_mul-n
+overflow_mul-n c =
     let ds = c.args.digits.now in
     let i = c.loop-b.b-index in
     let len = length-take-le i ds (omega arith) in
     let low = value_under 5 (take i ds) (digits_take i ds c.requires.digits) (omega (arith, len, c.requires.few)) in
     omega (arith, low, c.loop-b.invariant)
 
-pub overflow-sub-b : goal.overflow-sub-b
-overflow-sub-b c = (digit_at c.args.digits.now c.loop-b.b-index c.requires.digits (omega arith)).0
+pub overflow_sub-b : goal.overflow_sub-b
+overflow_sub-b c = (digit_at c.args.digits.now c.loop-b.b-index c.requires.digits (omega arith)).0
 
-pub overflow-add-n : goal.overflow-add-n
-overflow-add-n c =
+pub overflow_add-n : goal.overflow_add-n
+overflow_add-n c =
     let ds = c.args.digits.now in
     let i = c.loop-b.b-index in
     let len = length-take-le i ds (omega arith) in

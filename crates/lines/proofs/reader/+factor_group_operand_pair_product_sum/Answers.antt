@@ -7,21 +7,21 @@ use Rattle.lines.specs.Reading.{items, begins, adds, factors, Reads, Refuses}
 use Rattle.lines.proofs.Joins.{sum_first, sum_more, sum_refused, product_first, product_more, product_refused, stopped, neither, one_step, reads_number, reads_name, reads_group, group_unclosed, pair_unopened, pair_nested, pair_first_refused, pair_uncut, pair_second_refused, pair_unclosed, reads_pair, broken, at_sign, at_word, at_number}
 use Rattle.lines.proofs.reader.+factor_group_operand_pair_product_sum.Goals as goal
 
-pub sum-returns-in-default : goal.sum-returns-in-default
-sum-returns-in-default t c =
-    let r = c.loop-op.invariant.0 _ (sum_first c.in-ok-at.ensures.reads) in
+pub sum-returns-in_default : goal.sum-returns-in_default
+sum-returns-in_default t c =
+    let r = c.loop-op.invariant.0 _ (sum_first c.in_ok-at.ensures.reads) in
     record {
-      reads = stopped r (neither (parts (drop c.loop-op.at c.args.line.now)) r.stops (ap (begins adds) c.next-token-after.ensures.parts ∙ c.in-default.ensures (parts (drop c.next-token-after.result.1 c.args.line.now))));
+      reads = stopped r (neither (parts (drop c.loop-op.at c.args.line.now)) r.stops (ap (begins adds) c.next_token-after.ensures.parts ∙ c.in_default.ensures (parts (drop c.next_token-after.result.1 c.args.line.now))));
       bound = search rules;
       capacity = search rules;
     }
 
-pub sum-returns-in-err-at-2 : goal.sum-returns-in-err-at-2
-sum-returns-in-err-at-2 t c =
-    let r = c.loop-op.invariant.0 _ (sum_first c.in-ok-at.ensures.reads) in
+pub sum-returns-in_err-at-2 : goal.sum-returns-in_err-at-2
+sum-returns-in_err-at-2 t c =
+    let r = c.loop-op.invariant.0 _ (sum_first c.in_ok-at.ensures.reads) in
     let a = c.in-Some.ensures in
     record {
-      reads = broken _ _ _ _ c.from-residual-in-err-at-2.ensures.1 (sum_refused _ r (at_sign c.next-token-after.ensures.parts a.1) a.2 c.in-err-at-2.ensures.reads);
+      reads = broken _ _ _ _ c.from_residual-in_err-at-2.ensures.1 (sum_refused _ r (at_sign c.next_token-after.ensures.parts a.1) a.2 c.in_err-at-2.ensures.reads);
       bound = search rules;
       capacity = search rules;
     }
@@ -36,21 +36,21 @@ sum-loop-op-preserved t c =
       search rules,
     )
 
-pub product-returns-in-default : goal.product-returns-in-default
-product-returns-in-default t c =
-    let r = c.loop-op.invariant.0 _ (product_first c.in-ok-at.ensures.reads) in
+pub product-returns-in_default : goal.product-returns-in_default
+product-returns-in_default t c =
+    let r = c.loop-op.invariant.0 _ (product_first c.in_ok-at.ensures.reads) in
     record {
-      reads = stopped r (ap (begins factors) c.next-token-after.ensures.parts ∙ c.in-default.ensures (parts (drop c.next-token-after.result.1 c.args.line.now)));
+      reads = stopped r (ap (begins factors) c.next_token-after.ensures.parts ∙ c.in_default.ensures (parts (drop c.next_token-after.result.1 c.args.line.now)));
       bound = search rules;
       capacity = search rules;
     }
 
-pub product-returns-in-err-at-2 : goal.product-returns-in-err-at-2
-product-returns-in-err-at-2 t c =
-    let r = c.loop-op.invariant.0 _ (product_first c.in-ok-at.ensures.reads) in
+pub product-returns-in_err-at-2 : goal.product-returns-in_err-at-2
+product-returns-in_err-at-2 t c =
+    let r = c.loop-op.invariant.0 _ (product_first c.in_ok-at.ensures.reads) in
     let a = c.in-Some.ensures in
     record {
-      reads = broken _ _ _ _ c.from-residual-in-err-at-2.ensures.1 (product_refused _ r (at_sign c.next-token-after.ensures.parts a.1) a.2 c.in-err-at-2.ensures.reads);
+      reads = broken _ _ _ _ c.from_residual-in_err-at-2.ensures.1 (product_refused _ r (at_sign c.next_token-after.ensures.parts a.1) a.2 c.in_err-at-2.ensures.reads);
       bound = search rules;
       capacity = search rules;
     }
@@ -115,11 +115,11 @@ group-returns t c =
       capacity = search rules;
     }
 
-pub pair-returns-in-err-first : goal.pair-returns-in-err-first
-pair-returns-in-err-first t c =
-    let p = c.in-err-first.ensures.sign in
+pub pair-returns-in_err-first : goal.pair-returns-in_err-first
+pair-returns-in_err-first t c =
+    let p = c.in_err-first.ensures.sign in
     record {
-      reads = λ w f. broken _ _ _ _ c.from-residual.ensures.1 (pair_unopened w f c.args.left _ _ p.0 p.1);
+      reads = λ w f. broken _ _ _ _ c.from_residual.ensures.1 (pair_unopened w f c.args.left _ _ p.0 p.1);
       bound = search rules;
       capacity = search rules;
     }
@@ -132,40 +132,40 @@ pair-returns-then-left-eq0 t c =
       capacity = search rules;
     }
 
-pub pair-returns-in-err-comma : goal.pair-returns-in-err-comma
-pair-returns-in-err-comma t c =
+pub pair-returns-in_err-comma : goal.pair-returns-in_err-comma
+pair-returns-in_err-comma t c =
     let less : suc (c.args.left - 1) ≡ c.args.left = omega arith in
     record {
-      reads = λ w f. broken _ _ _ _ c.from-residual-in-err-comma.ensures.1 (pair_first_refused w f less c.in-ok-first.ensures.sign _ c.in-err-comma.ensures.reads);
+      reads = λ w f. broken _ _ _ _ c.from_residual-in_err-comma.ensures.1 (pair_first_refused w f less c.in_ok-first.ensures.sign _ c.in_err-comma.ensures.reads);
       bound = search rules;
       capacity = search rules;
     }
 
-pub pair-returns-in-err-second : goal.pair-returns-in-err-second
-pair-returns-in-err-second t c =
+pub pair-returns-in_err-second : goal.pair-returns-in_err-second
+pair-returns-in_err-second t c =
     let less : suc (c.args.left - 1) ≡ c.args.left = omega arith in
-    let p = c.in-err-second.ensures.sign in
+    let p = c.in_err-second.ensures.sign in
     record {
-      reads = λ w f. broken _ _ _ _ c.from-residual-in-err-second.ensures.1 (pair_uncut w f less c.in-ok-first.ensures.sign c.in-ok-comma.ensures.reads _ p.0 p.1);
+      reads = λ w f. broken _ _ _ _ c.from_residual-in_err-second.ensures.1 (pair_uncut w f less c.in_ok-first.ensures.sign c.in_ok-comma.ensures.reads _ p.0 p.1);
       bound = search rules;
       capacity = search rules;
     }
 
-pub pair-returns-in-err-close : goal.pair-returns-in-err-close
-pair-returns-in-err-close t c =
+pub pair-returns-in_err-close : goal.pair-returns-in_err-close
+pair-returns-in_err-close t c =
     let less : suc (c.args.left - 1) ≡ c.args.left = omega arith in
     record {
-      reads = λ w f. broken _ _ _ _ c.from-residual-in-err-close.ensures.1 (pair_second_refused w f less c.in-ok-first.ensures.sign c.in-ok-comma.ensures.reads c.in-ok-second.ensures.sign _ c.in-err-close.ensures.reads);
+      reads = λ w f. broken _ _ _ _ c.from_residual-in_err-close.ensures.1 (pair_second_refused w f less c.in_ok-first.ensures.sign c.in_ok-comma.ensures.reads c.in_ok-second.ensures.sign _ c.in_err-close.ensures.reads);
       bound = search rules;
       capacity = search rules;
     }
 
-pub pair-returns-in-err-end : goal.pair-returns-in-err-end
-pair-returns-in-err-end t c =
+pub pair-returns-in_err-end : goal.pair-returns-in_err-end
+pair-returns-in_err-end t c =
     let less : suc (c.args.left - 1) ≡ c.args.left = omega arith in
-    let p = c.in-err-end.ensures.sign in
+    let p = c.in_err-end.ensures.sign in
     record {
-      reads = λ w f. broken _ _ _ _ c.from-residual-in-err-end.ensures.1 (pair_unclosed w f less c.in-ok-first.ensures.sign c.in-ok-comma.ensures.reads c.in-ok-second.ensures.sign c.in-ok-close.ensures.reads _ p.0 p.1);
+      reads = λ w f. broken _ _ _ _ c.from_residual-in_err-end.ensures.1 (pair_unclosed w f less c.in_ok-first.ensures.sign c.in_ok-comma.ensures.reads c.in_ok-second.ensures.sign c.in_ok-close.ensures.reads _ p.0 p.1);
       bound = search rules;
       capacity = search rules;
     }
@@ -174,7 +174,7 @@ pub pair-returns : goal.pair-returns
 pair-returns t c =
     let less : suc (c.args.left - 1) ≡ c.args.left = omega arith in
     record {
-      reads = λ w f. reads_pair w f less c.in_ok-first.ensures.sign c.in_ok-comma.ensures.reads c.in_ok-second.ensures.sign c.in-ok-close.ensures.reads c.in-ok-end.ensures.sign (one_step c.args.line.now _ _ _ c.push-reserved.ensures.items);
+      reads = λ w f. reads_pair w f less c.in_ok-first.ensures.sign c.in_ok-comma.ensures.reads c.in_ok-second.ensures.sign c.in_ok-close.ensures.reads c.in_ok-end.ensures.sign (one_step c.args.line.now _ _ _ c.push_reserved.ensures.items);
       bound = search rules;
       capacity = search rules;
     }

@@ -11,7 +11,7 @@ neither bs e f g = (
   λ i. cond (e i) 0 (cond (f i) (run class.Word bs) (cond (g i) (number_width bs) (sign_width (sign_of (get_or bs 0 0) (get_or bs 1 0))))),
 )
 
-pub returns-else-is-ascii-digit : goal.returns-else-is-ascii-digit
-returns-else-is-ascii-digit c =
-    let n = neither c.args.bytes.now (sym c.if-is-empty.ensures) (sym c.if-is-ascii-alphabetic.ensures.value) (sym c.if-is-ascii-digit.ensures.value) in
-    record { token = c.sign-at.ensures.token ∙ sym n.0; width = c.sign-at.ensures.width ∙ sym n.1; bound = search rules; place = search rules; lies = λ line _. c.sign-at.ensures.lies line }
+pub returns-else-is_ascii_digit : goal.returns-else-is_ascii_digit
+returns-else-is_ascii_digit c =
+    let n = neither c.args.bytes.now (sym c.if-is_empty.ensures) (sym c.if-is_ascii_alphabetic.ensures.value) (sym c.if-is_ascii_digit.ensures.value) in
+    record { token = c.sign_at.ensures.token ∙ sym n.0; width = c.sign_at.ensures.width ∙ sym n.1; bound = search rules; place = search rules; lies = λ line _. c.sign_at.ensures.lies line }
