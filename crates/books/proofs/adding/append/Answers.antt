@@ -5,9 +5,9 @@ use Rattle.books.proofs.adding.append.Goals as goal
 
 pub loop-step-preserved : goal.loop-step-preserved
 loop-step-preserved c = (
-  pushed (vec_items c.args.steps.now) _ _ c.args.row.now c.loop-step.step-index _ (omega arith) c.loop-step.invariant.0 c.push-reserved.ensures.items,
-  omega (arith, c.push-reserved.ensures.len, c.loop-step.invariant.1),
-  c.push-reserved.ensures.capacity ∙ c.loop-step.invariant.2,
+  pushed (vec_items c.args.steps.now) _ _ c.args.row.now c.loop-step.step-index _ (omega arith) c.loop-step.invariant.0 c.push_reserved.ensures.items,
+  omega (arith, c.push_reserved.ensures.len, c.loop-step.invariant.1),
+  c.push_reserved.ensures.capacity ∙ c.loop-step.invariant.2,
 )
 
 pub returns : goal.returns

@@ -7,6 +7,6 @@ returns c =
     let book = c.args.self.now in
     let n = c.args.number in
     record {
-      lines = line_places book n (has c.dependent.result) c.as-slice.result.now c.as-slice.ensures.value c.dependent.ensures;
-      rules = rule_places book n (has c.dependent-2.result) c.as-slice-2.result.now c.as-slice-2.ensures.value c.dependent-2.ensures;
+      lines = line_places book n (has c.dependent.result) c.as_slice.result.now c.as_slice.ensures.value c.dependent.ensures;
+      rules = rule_places book n (has c.dependent-2.result) c.as_slice-2.result.now c.as_slice-2.ensures.value c.dependent-2.ensures;
     }

@@ -9,25 +9,25 @@ use Rattle.books.proofs.Refusals.{fits_both, steps_count}
 use Rattle.books.proofs.Standing.{within_of}
 use Rattle.books.proofs.draft.Draft.add_rule.Goals as goal
 
-pub split-at-requires : goal.split-at-requires
-split-at-requires c =
+pub split_at-requires : goal.split_at-requires
+split_at-requires c =
     let d = lists_of c.args.self.now.book in
     let line = c.args.line.now in
-    let row = vec_items c.check-rule.new.row in
+    let row = vec_items c.check_rule.new.row in
     let st = c.requires.stated in
-    let k = c.in-ok-unit.ensures.checks st.0 st.1 (ap (items line) c.as-slice.ensures.value ∙ st.2) st.3 in
-    omega (arith, length-take c.args.split row, ap length k.is_left, steps_count (look_in d) st.0 k.f k.known_left, st.3, ap length c.as-slice-2.ensures.value)
+    let k = c.in_ok-unit.ensures.checks st.0 st.1 (ap (items line) c.as_slice.ensures.value ∙ st.2) st.3 in
+    omega (arith, length-take c.args.split row, ap length k.is_left, steps_count (look_in d) st.0 k.f k.known_left, st.3, ap length c.as_slice-2.ensures.value)
 
-pub push-rule-requires : goal.push-rule-requires
-push-rule-requires c =
+pub push_rule-requires : goal.push_rule-requires
+push_rule-requires c =
     let b = c.args.self.now.book in
     let d = lists_of b in
     let raw = c.args.self.now.parsed.raw in
     let line = c.args.line.now in
     let st = c.requires.stated in
-    let k = c.in-ok-unit.ensures.checks st.0 st.1 (ap (items line) c.as-slice.ensures.value ∙ st.2) st.3 in
-    let is_left = c.split-at.ensures.front ∙ ap (take c.args.split) c.as-slice-2.ensures.value ∙ k.is_left in
-    let is_right = c.split-at.ensures.back ∙ ap (drop c.args.split) c.as-slice-2.ensures.value ∙ k.is_right in
+    let k = c.in_ok-unit.ensures.checks st.0 st.1 (ap (items line) c.as_slice.ensures.value ∙ st.2) st.3 in
+    let is_left = c.split_at.ensures.front ∙ ap (take c.args.split) c.as_slice-2.ensures.value ∙ k.is_left in
+    let is_right = c.split_at.ensures.back ∙ ap (drop c.args.split) c.as_slice-2.ensures.value ∙ k.is_right in
     let fit = fits_both d (length d.rules) (length (steps k.f) + length (steps k.g)) k.room in
     let left = steps_count (look_in d) st.0 k.f k.known_left in
     let right = steps_count (look_in d) st.1 k.g k.known_right in
@@ -59,14 +59,14 @@ pub returns : goal.returns
 returns c = λ t u q at.
     let d = lists_of c.args.self.now.book in
     let line = c.args.line.now in
-    let is_name = c.text-at-name.ensures in
-    let text = c.text-at-name.result.now in
+    let is_name = c.text_at-name.ensures in
+    let text = c.text_at-name.result.now in
     let root = c.args.root in
-    let k = c.in-ok-unit.ensures.checks t u (ap (items line) c.as-slice.ensures.value ∙ q) at in
-    let is_left = c.split-at.ensures.front ∙ ap (take c.args.split) c.as-slice-2.ensures.value ∙ k.is_left in
-    let is_right = c.split-at.ensures.back ∙ ap (drop c.args.split) c.as-slice-2.ensures.value ∙ k.is_right in
+    let k = c.in_ok-unit.ensures.checks t u (ap (items line) c.as_slice.ensures.value ∙ q) at in
+    let is_left = c.split_at.ensures.front ∙ ap (take c.args.split) c.as_slice-2.ensures.value ∙ k.is_left in
+    let is_right = c.split_at.ensures.back ∙ ap (drop c.args.split) c.as_slice-2.ensures.value ∙ k.is_right in
     let name = c.new.ensures ∙ take_all 16 text (omega (arith, ap length is_name, c.requires.room.1.1)) ∙ is_name in
-    let p = c.push-rule.ensures in (
+    let p = c.push_rule.ensures in (
       subst (λ n. refusal_of d (Stated.rule n root t u) ≡ None) is_name k.unrefused,
-      subst₂ (λ n z. Grows d (Stated.rule n root t u) z) name (sym (p.1 ∙ (λ i. with_rule d c.new.result root c.in-ok-unit.unit p.0 (is_left i) (is_right i)))) (Grows.rule c.new.result p.0 k.known_left k.known_right k.left_unit (p.2 k.f k.g is_left is_right)),
+      subst₂ (λ n z. Grows d (Stated.rule n root t u) z) name (sym (p.1 ∙ (λ i. with_rule d c.new.result root c.in_ok-unit.unit p.0 (is_left i) (is_right i)))) (Grows.rule c.new.result p.0 k.known_left k.known_right k.left_unit (p.2 k.f k.g is_left is_right)),
     )
