@@ -140,7 +140,7 @@ fn run(rt: &HostRuntime) -> anyhow::Result<()> {
     let mut draft = Draft::open(rt.alloc())?;
     for line in BufReader::new(rt.alloc(), rt.stdin())?.split(rt.alloc(), b'\n') {
         let line = line?;
-        if line.as_slice() == b"====" {
+        if line.as_slice() == b"====".as_slice() {
             print_book(rt, &draft.close())?;
             draft = Draft::open(rt.alloc())?;
         } else {
