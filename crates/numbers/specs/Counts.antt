@@ -1,5 +1,5 @@
 -- Values that count 1/s: their order, sums, products and quotients. Assumes nothing.
-use Rattle.std.specs.Prelude.{◌≡◌, ℕ, zero, suc, ◌+◌, ◌*◌, ◌<◌, ◌≤◌, ℤ, pos, negsuc, ◌+ℤ◌, ◌*ℤ◌, neg_ℤ, ◌≤ℤ◌, ◌<ℤ◌, Ok, Err, Decides, Result, ◌≢◌, int_le, unsigned_abs, refl}
+use Rattle.std.specs.Prelude.{◌≡◌, ℕ, zero, suc, ◌*◌, ◌<◌, ℤ, pos, negsuc, ◌+ℤ◌, ◌*ℤ◌, neg_ℤ, ◌≤ℤ◌, ◌<ℤ◌, Ok, Err, Decides, Result, ◌≢◌, int_le, unsigned_abs, refl}
 use Rattle.std.proofs.Common.{sym, ap, arith, mul-pos}
 use borrow.Author.Differences.{ints, true_is_le}
 use Rattle.numbers.specs.declared.grid.Rounding.{Rounding}

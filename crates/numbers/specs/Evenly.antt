@@ -4,7 +4,7 @@ use Rattle.std.proofs.Common.{sym, subst, inl, inr, arith, mul-pos}
 use Rattle.std.proofs.lemmas.Int.{by_lt_z, ints}
 use Rattle.numbers.specs.declared.grid.Rounding.{Rounding}
 use Rattle.numbers.specs.declared.grid.Rounding.TheVariants.{Down}
-use Rattle.numbers.specs.Fractions.{◌≤ᶠ◌, ◌≈ᶠ◌, over, -ᶠ◌}
+use Rattle.numbers.specs.Fractions.{◌≈ᶠ◌, over, -ᶠ◌}
 use Rattle.numbers.specs.Grids.{InReach, Beyond, Answers, Computes, IsGrid, IsQuotient, parts}
 use Rattle.numbers.specs.Steps.{Steps, evenly}
 use Rattle.numbers.specs.Integers.{mul_le, mul_split, neg_left, times_lt}

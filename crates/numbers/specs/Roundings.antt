@@ -1,12 +1,12 @@
 -- Rounding to a grid. Assumes nothing.
-use Rattle.std.specs.Prelude.{◌≡◌, ℕ, ◌+◌, ◌*◌, ◌<◌, ◌≤◌, ℤ, pos, ◌+ℤ◌, ◌-ℤ◌, ◌*ℤ◌, neg_ℤ, ◌≤ℤ◌, ◌<ℤ◌, Ok, Err, Result}
+use Rattle.std.specs.Prelude.{◌≡◌, ℕ, ◌*◌, ◌<◌, ℤ, pos, ◌+ℤ◌, ◌-ℤ◌, ◌*ℤ◌, neg_ℤ, ◌≤ℤ◌, ◌<ℤ◌, Ok, Err, Result}
 use Rattle.std.proofs.Common.{sym, ap, ◌∙◌, arith, mul_comm, inl, inr}
 use Rattle.std.proofs.lemmas.Int.{ints}
 use Rattle.numbers.specs.declared.grid.Rounding.{Rounding}
 use Rattle.numbers.specs.declared.grid.Rounding.TheVariants.{Down, Up}
 use Rattle.numbers.specs.declared.grid.Refusal.{Refusal}
 use Rattle.numbers.specs.declared.grid.Refusal.TheVariants.{BeyondReach, ZeroDivisor}
-use Rattle.numbers.specs.Fractions.{Fraction, ◌≤ᶠ◌, ◌<ᶠ◌, ◌≈ᶠ◌, over, -ᶠ◌}
+use Rattle.numbers.specs.Fractions.{Fraction, ◌≈ᶠ◌, over, -ᶠ◌}
 use Rattle.numbers.specs.Grids.{Gauge, IsRounded, InReach, Beyond, Answers, Computes, IsQuotient}
 use Rattle.numbers.specs.Integers.{mul_split, mul_le, mul_le_back, mul_lt_back}
 use Rattle.numbers.specs.Orders.{≤ᶠ_trans, <ᶠ-≤ᶠ_trans, ≤ᶠ-<ᶠ_trans, clashᶠ, neg_le, alike}

@@ -6,13 +6,13 @@ use Rattle.std.specs.Int.{w128}
 use Rattle.numbers.specs.declared.sig.Sig.{Sig}
 use Rattle.numbers.specs.declared.grid.Rounding.TheVariants.{Down}
 use Rattle.numbers.specs.Fractions.{Fraction, ◌≈ᶠ◌, -ᶠ◌, millionths}
-use Rattle.numbers.specs.Grids.{InReach, Computes, IsQuotient, parts}
+use Rattle.numbers.specs.Grids.{InReach, IsGrid, Computes, IsQuotient, parts}
 use Rattle.numbers.specs.Digits.{six}
 use Rattle.numbers.specs.Forms.{sig}
 use Rattle.numbers.specs.Integers.{mul_bound, neg_left}
 use Rattle.numbers.specs.Orders.{alike}
 use Rattle.numbers.specs.Quotients.{floor, stays_within}
-use Rattle.numbers.specs.Roundings.{by_quotient, rounded_same, parted, two_stage}
+use Rattle.numbers.specs.Roundings.{by_quotient, rounded_same, parted, two_stage, computes_both}
 use Rattle.numbers.specs.Counts.{same_count}
 use Rattle.numbers.specs.Nearest.{Near, ten_most, near_self, near_rounded, six_near}
 
@@ -65,3 +65,17 @@ computes q i =
     let first = rounded_same millionths Down c (parted 1000000 q h) (by_quotient (λ (k : ℤ). k) 1000000 (millionths c).positive Down n q.den h c down) in
     let second = near_rounded (λ (w : Sig). w.mantissa) (λ (w : Sig). w.exponent) (λ (w : Sig). w.six) Down c v near in
     (v, same_count 1000000 (millionths c).positive (sym is ∙ one (six 12 c)), two_stage millionths meaning finer Down q c v first second)
+
+pub grid : IsGrid sig
+grid = record {
+  zero = (made (pos 0) 0 (omega arith) (omega arith), alike refl);
+  negative = negative;
+  greatest = (made (pos 999999) 12 (omega arith) (omega arith), alike refl);
+  reach = reach;
+  top_low = record { at_most = omega (arith, ints) };
+  top_high = record { at_most = omega (arith, ints) };
+  scale = 1000000;
+  scale_positive = omega arith;
+  count = λ v. (count v, alike refl);
+  computes = computes_both sig negative computes;
+}

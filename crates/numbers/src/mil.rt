@@ -1,7 +1,6 @@
 // The form "mil": every multiple of 1/1000 up to a top of 3,000,000.
 ghost use Rattle.std.specs.Prelude.{◌≤◌, unsigned_abs, refl};
 ghost use Rattle.numbers.specs.Steps.{mil_steps};
-ghost use Rattle.std.proofs.Common.{rules, arith};
 
 use crate::steps::EqualSteps;
 
@@ -19,7 +18,7 @@ impl EqualSteps for Mil {
 
     ghost counts = { λ v. v.count };
 
-    ghost within = { first_of (Prim.search rules, Prim.grind (arith, Self.row.coded.inj)) };
+    ghost within = { λ v. v.within };
 
     ghost every = { λ n h. (record { count = n; within = h }, refl) };
 

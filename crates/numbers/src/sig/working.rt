@@ -3,12 +3,7 @@ ghost use Rattle.std.specs.Prelude.{◌≡◌, ◌*◌, ◌^◌, ◌<◌, ◌≤
 ghost use Rattle.numbers.specs.Fractions.{◌≈ᶠ◌, over, millionths};
 ghost use Rattle.numbers.specs.Grids.{IsRounded, Answers, Compares, Takes, Shows, Adds, Multiplies, Divides};
 ghost use Rattle.numbers.specs.Forms.{sig};
-ghost use Rattle.std.proofs.Common.{arith};
-ghost use Rattle.std.proofs.lemmas.Int.{ints};
-ghost use Rattle.numbers.specs.Orders.{alike};
-ghost use Rattle.numbers.specs.Roundings.{computes_both};
-ghost use Rattle.numbers.specs.Sigs;
-ghost use Rattle.numbers.specs.Sigs.{negative, computes};
+ghost use Rattle.numbers.specs.Sigs.{grid};
 
 use crate::grid::{Form, Grid, Refusal, Rounding, Thousandths};
 use crate::sig::Sig;
@@ -106,18 +101,7 @@ impl Sig {
 impl Grid for Sig {
     ghost gauge = { sig };
 
-    ghost grid = { record {
-      zero = (record { mantissa = pos 0; exponent = 0; six = omega arith; power = omega arith }, alike refl);
-      negative = negative;
-      greatest = (record { mantissa = pos 999999; exponent = 12; six = omega arith; power = omega arith }, alike refl);
-      reach = Sigs.reach;
-      top_low = record { at_most = omega (arith, ints) };
-      top_high = record { at_most = omega (arith, ints) };
-      scale = 1000000;
-      scale_positive = omega arith;
-      count = λ v. (Sigs.count v, alike refl);
-      computes = computes_both sig negative computes;
-    } };
+    ghost grid = { grid };
 
     fn at_most(self, other: Sig) -> bool {
         self.ordered(other)
