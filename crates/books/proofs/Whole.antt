@@ -1,5 +1,5 @@
 -- What holds of every book, in the words of formulas.
-use Rattle.std.proofs.Common.{◌≡◌, ℕ, Bool, true, false, ◌||◌, leb, ◌⊎◌, List, length, ℤ, pos, negsuc, Some, None, Ok, Err, vec_items, Decides, Option, Result, sym, refl, ap, ◌∙◌, subst, inl, inr, ⊎_elim, arith}
+use Rattle.std.proofs.Common.{◌≡◌, ℕ, Bool, true, false, ◌||◌, leb, List, length, ℤ, pos, negsuc, Some, None, Ok, Err, vec_items, Decides, Option, Result, sym, refl, ap, ◌∙◌, subst, inl, inr, ⊎_elim, arith}
 use Rattle.std.proofs.lemmas.Bool.{and_parts, leb-true, false≢true}
 use Rattle.std.proofs.lemmas.Bool.Decides.{Decides-at, Decides-like}
 use Rattle.std.specs.Option.{option_map, unwrap_or}

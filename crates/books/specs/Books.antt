@@ -8,7 +8,7 @@ use Rattle.books.specs.declared.step.Line.{Line}
 use Rattle.books.specs.declared.step.Rule.{Rule}
 use Rattle.books.specs.declared.step.Span.{Span}
 use Rattle.books.specs.declared.step.Step.{Step}
-use Rattle.books.specs.Formulas.{Named, entry, line, Formula, steps, formula}
+use Rattle.books.specs.Formulas.{Named, entry, line, Formula, formula}
 use Rattle.books.specs.Needs.{in_words, line_has, reaches, any_name}
 use Rattle.books.specs.Units.{formula_unit, same_unit, sides_agree}
 

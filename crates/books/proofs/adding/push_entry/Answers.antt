@@ -1,4 +1,4 @@
-use Rattle.std.proofs.Common.{vec_items, sym, ◌∙◌, subst₂, rules, arith}
+use Rattle.std.proofs.Common.{vec_items, sym, ◌∙◌, subst₂, arith}
 use Rattle.lines.specs.Grammar.{Stated}
 use Rattle.std.proofs.lemmas.List.{take_all}
 use Rattle.books.specs.Drafts.{lists_of, Grows}
