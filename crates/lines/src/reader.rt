@@ -86,7 +86,7 @@ fn product_op(token: Token) -> Option<Op>
 }
 
 // Products joined by + and -, from the left; `left` is how many parentheses may still open.
-#[cycle(factor_group_operand_pair_product_sum)]
+#[cycle(formula)]
 pub(crate) fn sum(
     line: &[u8],
     start: usize,
@@ -112,7 +112,7 @@ pub(crate) fn sum(
 }
 
 // The product after a sign.
-#[cycle(factor_group_operand_pair_product_sum)]
+#[cycle(formula)]
 fn operand(line: &[u8], after: usize, left: usize, out: &mut Vec<Raw>) -> Result<usize, Refusal>
     requires within { after ≤ length line.now }
     requires short { length line.now ≤ 120 }
@@ -125,7 +125,7 @@ fn operand(line: &[u8], after: usize, left: usize, out: &mut Vec<Raw>) -> Result
 }
 
 // Factors joined by * and /, from the left.
-#[cycle(factor_group_operand_pair_product_sum)]
+#[cycle(formula)]
 fn product(line: &[u8], start: usize, left: usize, out: &mut Vec<Raw>) -> Result<usize, Refusal>
     requires within { start ≤ length line.now }
     requires short { length line.now ≤ 120 }
@@ -146,7 +146,7 @@ fn product(line: &[u8], start: usize, left: usize, out: &mut Vec<Raw>) -> Result
 }
 
 // A number, a name, a sum in parentheses, or min or max of two sums.
-#[cycle(factor_group_operand_pair_product_sum)]
+#[cycle(formula)]
 fn factor(line: &[u8], start: usize, left: usize, out: &mut Vec<Raw>) -> Result<usize, Refusal>
     requires within { start ≤ length line.now }
     requires short { length line.now ≤ 120 }
@@ -177,7 +177,7 @@ fn factor(line: &[u8], start: usize, left: usize, out: &mut Vec<Raw>) -> Result<
 }
 
 // What follows an open parenthesis: a sum and the closing one.
-#[cycle(factor_group_operand_pair_product_sum)]
+#[cycle(formula)]
 fn group(line: &[u8], start: usize, left: usize, out: &mut Vec<Raw>) -> Result<usize, Refusal>
     requires within { start ≤ length line.now }
     requires short { length line.now ≤ 120 }
@@ -194,7 +194,7 @@ fn group(line: &[u8], start: usize, left: usize, out: &mut Vec<Raw>) -> Result<u
 }
 
 // What follows min or max: two sums in parentheses.
-#[cycle(factor_group_operand_pair_product_sum)]
+#[cycle(formula)]
 fn pair(
     line: &[u8],
     start: usize,

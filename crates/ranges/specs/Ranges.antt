@@ -50,7 +50,7 @@ ends Over a b = corners ◌÷ᶠ◌ a b
 ends Least a b = record { low = minᶠ a.low b.low; high = minᶠ a.high b.high }
 ends Greatest a b = record { low = maxᶠ a.low b.low; high = maxᶠ a.high b.high }
 
--- zero lies between the ends, in either order; `Zero-refused` says it of a range whose low is not above its high
+-- zero lies between the ends, in either order; `ZeroRefused` says it of a range whose low is not above its high
 abbrev pub HoldsZero : Interval → Type 0
 HoldsZero b = ((b.low ≤ᶠ zeroᶠ) × (zeroᶠ ≤ᶠ b.high)) ⊎ ((b.high ≤ᶠ zeroᶠ) × (zeroᶠ ≤ᶠ b.low))
 

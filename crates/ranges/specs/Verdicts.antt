@@ -34,7 +34,7 @@ pub record Squares {V : Type 0} (G : Gauge V) (a : Interval) : Type 0 where
 abbrev pub Bursts : {V : Type 0} → Gauge V → Fraction → Type 0
 Bursts G x = (zeroᶠ <ᶠ x) × Beyond G (x *ᶠ x)
 
--- so for an end of the range; `Square-refused` says it of a range whose low is not above its high
+-- so for an end of the range; `SquareRefused` says it of a range whose low is not above its high
 abbrev pub SquareBeyond : {V : Type 0} → Gauge V → Interval → Type 0
 SquareBeyond G a = Bursts G a.high ⊎ Bursts G a.low
 

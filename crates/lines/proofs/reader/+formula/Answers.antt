@@ -5,7 +5,7 @@ use Rattle.lines.specs.Tokens.{tok, parts, Placed}
 use Rattle.lines.specs.Grammar.{Function, Factor, Item}
 use Rattle.lines.specs.Reading.{items, begins, adds, factors, Reads, Refuses}
 use Rattle.lines.proofs.Joins.{sum_first, sum_more, sum_refused, product_first, product_more, product_refused, stopped, neither, one_step, reads_number, reads_name, reads_group, group_unclosed, pair_unopened, pair_nested, pair_first_refused, pair_uncut, pair_second_refused, pair_unclosed, reads_pair, broken, at_sign, at_word, at_number}
-use Rattle.lines.proofs.reader.+factor_group_operand_pair_product_sum.Goals as goal
+use Rattle.lines.proofs.reader.+formula.Goals as goal
 
 pub sum-returns-in_default : goal.sum-returns-in_default
 sum-returns-in_default t c =

@@ -2,7 +2,7 @@ use Rattle.std.proofs.Common.{◌≡◌, ◌+◌, ◌-◌, ◌*◌, ◌≤◌, L
 use Rattle.lines.specs.Tokens.{parts}
 use Rattle.lines.specs.Grammar.{Sum, Product, Item}
 use Rattle.lines.specs.Reading.{items, Reads, factors}
-use Rattle.lines.proofs.reader.+factor_group_operand_pair_product_sum.Given as goal
+use Rattle.lines.proofs.reader.+formula.Given as goal
 
 abbrev pub decreases-factor : goal.decreases-factor
 decreases-factor l = 4 * (length l.line.now - l.start)
