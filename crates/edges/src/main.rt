@@ -2,17 +2,18 @@
 // A value is a mantissa and a power of ten: the line `999999 6 + 1 -6` is 999999 * 10^6 + 1 * 10^-6.
 #![tactic(auto)]
 
-use anyhow::anyhow;
+use anyhow::Context;
 use numbers::{Form, Grid, Rounding, Sig, Thousandths};
 use ranges::{Range, Sign};
+use std::str::SplitWhitespace;
 
 // The value mantissa * 10^exponent, where it is one of sig's.
 fn value(mantissa: i32, exponent: i32) -> Option<Sig> {
-    if mantissa < -999_999 || 999_999 < mantissa || exponent < -6 || 6 < exponent {
+    if !(-999_999..=999_999).contains(&mantissa) || !(-6..=6).contains(&exponent) {
         return None;
     }
     let ten = Sig::take(Thousandths::new(10_000)?, Rounding::Down);
-    let count = Thousandths::new(mantissa.checked_mul(1000)?)?;
+    let count = Thousandths::new(mantissa * 1000)?;
     let mut value = Sig::take(count, Rounding::Down);
     for _ in 0..exponent.unsigned_abs() {
         let scaled = if exponent < 0 {
@@ -23,13 +24,6 @@ fn value(mantissa: i32, exponent: i32) -> Option<Sig> {
         value = scaled.ok()?;
     }
     Some(value)
-}
-
-fn point(value: Sig) -> Range<Sig> {
-    Range {
-        low: value,
-        high: value,
-    }
 }
 
 fn sign(word: &str) -> Option<Sign> {
@@ -49,15 +43,22 @@ struct Row {
     right: Range<Sig>,
 }
 
+// A value, by its two words.
+fn operand(words: &mut SplitWhitespace<'_>) -> Option<Range<Sig>> {
+    let mantissa = words.next()?.parse().ok()?;
+    let exponent = words.next()?.parse().ok()?;
+    let value = value(mantissa, exponent)?;
+    Some(Range {
+        low: value,
+        high: value,
+    })
+}
+
 fn read(line: &str) -> Option<Row> {
     let mut words = line.split_whitespace();
-    let mantissa = words.next()?.parse::<i32>().ok()?;
-    let exponent = words.next()?.parse::<i32>().ok()?;
-    let left = point(value(mantissa, exponent)?);
+    let left = operand(&mut words)?;
     let sign = sign(words.next()?)?;
-    let mantissa = words.next()?.parse::<i32>().ok()?;
-    let exponent = words.next()?.parse::<i32>().ok()?;
-    let right = point(value(mantissa, exponent)?);
+    let right = operand(&mut words)?;
     match words.next() {
         None => Some(Row { left, sign, right }),
         Some(_) => None,
@@ -65,21 +66,16 @@ fn read(line: &str) -> Option<Row> {
 }
 
 fn print_line(rt: &HostRuntime, line: &str) -> anyhow::Result<()> {
-    let Some(row) = read(line) else {
-        return Err(anyhow!(
-            "a line is no sum, difference, product or quotient of two values of sig"
-        ));
-    };
+    let row = read(line).context(
+        "a line is no sum, difference, product or quotient of two values of sig",
+    )?;
     match row.left.step(row.sign, row.right) {
-        Ok(range) => {
-            let low = range.low.millionths();
-            let high = range.high.millionths();
-            println!(rt; "{line} = {low} to {high}")?;
-        }
-        Err(refusal) => {
-            let number = refusal as u8;
-            println!(rt; "{line} refused with {number}")?;
-        }
+        Ok(range) => println!(rt;
+            "{line} = {} to {}",
+            range.low.millionths(),
+            range.high.millionths()
+        )?,
+        Err(refusal) => println!(rt; "{line} refused with {}", refusal as u8)?,
     }
     Ok(())
 }

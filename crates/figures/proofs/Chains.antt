@@ -1,8 +1,9 @@
 -- Workings step by step. Assumes nothing.
-use Rattle.std.proofs.Common.{◌≡◌, ℕ, ◌+◌, ◌<◌, List, [], ◌∷◌, length, get_or, drop, ℤ, Ok, Err, Result, sym, refl, ap, ◌∙◌, subst}
-use Rattle.std.proofs.lemmas.List.{drop_more}
+use Rattle.std.proofs.Common.{◌≡◌, ℕ, ◌+◌, ◌<◌, ◌≤◌, List, [], ◌∷◌, length, get_or, drop, ℤ, Ok, Err, Result, IsErrAnd, sym, refl, ap, ◌∙◌, subst}
+use Rattle.std.proofs.lemmas.List.{drop_more, drop_all}
 use Rattle.numbers.specs.declared.grid.Refusal.{Refusal}
 use Rattle.numbers.specs.Fractions.{Fraction, millionths, ◌≈ᶠ◌}
+use Rattle.numbers.specs.Given.{count_of}
 use Rattle.numbers.specs.Grids.{Gauge, IsGrid}
 use Rattle.numbers.specs.Orders.{≤ᶠ_trans}
 use Rattle.ranges.specs.declared.range.Range.{Range}
@@ -11,8 +12,8 @@ use Rattle.ranges.specs.declared.verdict.Kind.{Kind}
 use Rattle.ranges.specs.declared.verdict.Verdict.{Verdict}
 use Rattle.ranges.specs.Verdicts.{Judges}
 use Rattle.ranges.proofs.Same.{step_alike, judge_alike, covers_alike}
-use Rattle.figures.specs.declared.entry.Entry.{Entry}
 use Rattle.figures.specs.declared.entry.Link.{Link}
+use Rattle.figures.specs.declared.entry.Working.{Working}
 use Rattle.figures.specs.declared.entry.Ends.{Ends}
 use Rattle.figures.specs.Workings.{given, Chain, linked, chained, onward, comes, sides, Reads}
 
@@ -23,18 +24,18 @@ module _ {V : Type 0} (G : Gauge V) (grid : IsGrid G) where
     pub alike : Alike (span G r) at
     pub same : comes G c ≡ onward G (linked left) (Ok at)
 
-  pub begins : (e : Entry) (ls : List Link) (r : Range V) → Covers G (given e) r → Along (chained e ls) r ls
-  begins e ls r w = record { at = outward G (given e); alike = covers_alike G grid e.low.count e.high.count r e.low.few e.high.few e.ordered w; same = refl }
+  pub begins : (w : Working) (r : Range V) → Covers G (given w.first.entry) r → Along (chained w) r w.links.now
+  begins k r w = let e = k.first.entry in record { at = outward G (given e); alike = covers_alike G grid (count_of e.low) (count_of e.high) r e.low.few e.high.few e.ordered w; same = refl }
 
   -- one step more
   abbrev pub After : Chain → List Link → Result (Range V) Refusal → Type 0
   After c ls (Ok r) = Along c r ls
   After c ls (Err x) = Related (λ x. Alike (span G x)) (Err x) (comes G c)
 
-  onto : (c : Chain) (r e : Range V) (l : Link) (ls : List Link) (o : Result (Range V) Refusal) → Along c r (l ∷ ls) → Covers G (given l.entry) e → IsStep G l.sign (span G r) (span G e) o → After c ls o
+  onto : (c : Chain) (r e : Range V) (l : Link) (ls : List Link) (o : Result (Range V) Refusal) → Along c r (l ∷ ls) → Covers G (given l.operand.entry) e → IsStep G l.sign (span G r) (span G e) o → After c ls o
   onto c r e l ls o a w s =
-      let x = l.entry in
-      let other = covers_alike G grid x.low.count x.high.count e x.low.few x.high.few x.ordered w in
+      let x = l.operand.entry in
+      let other = covers_alike G grid (count_of x.low) (count_of x.high) e x.low.few x.high.few x.ordered w in
       go o (worked G l.sign a.at (outward G (given x))) a.same (step_alike G grid l.sign (span G r) a.at (span G e) (outward G (given x)) o a.alike other s)
     where
       stuck : (ls : List Link) (f : Refusal) → onward G (linked ls) (Err f) ≡ Err f
@@ -48,11 +49,19 @@ module _ {V : Type 0} (G : Gauge V) (grid : IsGrid G) where
       go (Err e) (Err f) same m = subst (Related (λ x. Alike (span G x)) (Err e)) (sym (same ∙ stuck ls f)) m
 
   -- the link l at the place i
-  pub goes_on : (c : Chain) (r e : Range V) (l : Link) (ls : List Link) (i : ℕ) (o : Result (Range V) Refusal) → i < length ls → l ≡ get_or ls i l → Along c r (drop i ls) → Covers G (given l.entry) e → IsStep G l.sign (span G r) (span G e) o → After c (drop (i + 1) ls) o
+  pub goes_on : (c : Chain) (r e : Range V) (l : Link) (ls : List Link) (i : ℕ) (o : Result (Range V) Refusal) → i < length ls → l ≡ get_or ls i l → Along c r (drop i ls) → Covers G (given l.operand.entry) e → IsStep G l.sign (span G r) (span G e) o → After c (drop (i + 1) ls) o
   goes_on c r e l ls i o h is a w s = onto c r e l (drop (i + 1) ls) o (subst (Along c r) (drop_more ls i l h ∙ ap (λ x. x ∷ drop (i + 1) ls) (sym is)) a) w s
 
-  pub ends : (c : Chain) (r : Range V) → Along c r [] → Related (λ x. Alike (span G x)) (Ok r) (comes G c)
-  ends c r a = subst (Related (λ x. Alike (span G x)) (Ok r)) (sym a.same) a.alike
+  -- a step that is refused ends the working
+  pub stops : (c : Chain) (e : Refusal) → Related (λ x. Alike (span G x)) (Err e) (comes G c) → (o : Result (Range V) Refusal) → IsErrAnd o (λ x. x ≡ e) → Related (λ x. Alike (span G x)) o (comes G c)
+  stops c e a (Ok r) w = absurd w
+  stops c e a (Err x) w = rw w a
+
+  -- with no link left
+  pub ends : (c : Chain) (r : Range V) (ls : List Link) (i : ℕ) → length ls ≤ i → Along c r (drop i ls) → Related (λ x. Alike (span G x)) (Ok r) (comes G c)
+  ends c r ls i h a =
+      let last : Along c r [] = subst (Along c r) (drop_all i ls h) a in
+      subst (Related (λ x. Alike (span G x)) (Ok r)) (sym last.same) last.alike
 
   -- a range that is read out in millionths
   pub reads : (r : Range V) (o : Result Interval Refusal) {x y : ℤ} (e : Ends) → Related (λ x. Alike (span G x)) (Ok r) o → G.meaning r.low ≈ᶠ millionths x → G.meaning r.high ≈ᶠ millionths y → e.low ≡ x → e.high ≡ y → Related Reads (Ok e) o

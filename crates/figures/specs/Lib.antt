@@ -1,2 +1,3 @@
 pub mod Workings
 pub mod Known
+pub mod Texts

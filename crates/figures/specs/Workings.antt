@@ -2,6 +2,7 @@
 use Rattle.std.specs.Prelude.{List, [], ◌∷◌, ℤ, Ok, Err, Result}
 use Rattle.numbers.specs.declared.grid.Refusal.{Refusal}
 use Rattle.numbers.specs.Fractions.{thousandths, millionths, ◌≈ᶠ◌}
+use Rattle.numbers.specs.Given.{count_of}
 use Rattle.numbers.specs.Grids.{Gauge}
 use Rattle.numbers.specs.Forms.{mil, sig}
 use Rattle.ranges.specs.declared.range.Sign.{Sign}
@@ -11,6 +12,7 @@ use Rattle.ranges.specs.Ranges.{Interval, outward, worked}
 use Rattle.ranges.specs.Verdicts.{judged}
 use Rattle.figures.specs.declared.entry.Entry.{Entry}
 use Rattle.figures.specs.declared.entry.Link.{Link}
+use Rattle.figures.specs.declared.entry.Working.{Working}
 use Rattle.figures.specs.declared.entry.Ends.{Ends}
 use Rattle.figures.specs.declared.entry.FormName.{FormName}
 use Rattle.figures.specs.declared.entry.FormName.TheVariants.{Mil, Sig}
@@ -20,7 +22,7 @@ abbrev pub from : ℤ → ℤ → Interval
 from low high = record { low = thousandths low; high = thousandths high }
 
 abbrev pub given : Entry → Interval
-given e = from e.low.count e.high.count
+given e = from (count_of e.low) (count_of e.high)
 
 -- a range, and then signs with what stands right of each
 pub record Chain : Type 0 where
@@ -29,10 +31,10 @@ pub record Chain : Type 0 where
 
 abbrev pub linked : List Link → List (Sign × Interval)
 linked [] = []
-linked (l ∷ ls) = (l.sign, given l.entry) ∷ linked ls
+linked (l ∷ ls) = (l.sign, given l.operand.entry) ∷ linked ls
 
-abbrev pub chained : Entry → List Link → Chain
-chained e ls = record { first = given e; rest = linked ls }
+abbrev pub chained : Working → Chain
+chained w = record { first = given w.first.entry; rest = linked w.links.now }
 
 -- steps from the left, each range rounded outward before its step; the first refusal ends them
 abbrev pub onward : {V : Type 0} → Gauge V → List (Sign × Interval) → Result Interval Refusal → Result Interval Refusal

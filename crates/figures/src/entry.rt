@@ -1,5 +1,6 @@
 // What a working starts from, as it is typed.
 ghost use Rattle.std.specs.Prelude.{◌≡◌, ◌≤ℤ◌, MatchOption};
+ghost use Rattle.numbers.specs.Given.{count_of};
 ghost use Rattle.numbers.specs.Grids.{Few};
 
 use numbers::Thousandths;
@@ -10,13 +11,13 @@ use ranges::Sign;
 pub struct Entry {
     pub low: Thousandths,
     pub high: Thousandths,
-    ghost ordered: { low.count ≤ℤ high.count },
+    ghost ordered: { count_of low ≤ℤ count_of high },
 }
 
 impl Entry {
     // None where low is above high, or an end has too many thousandths.
     pub fn new(low: i32, high: i32) -> Option<Entry>
-        ensures { MatchOption result (Few low × Few high × (low ≤ℤ high) → ⊥) (λ e. (e.low.count ≡ low) × (e.high.count ≡ high)) }
+        ensures { MatchOption result (¬ (Few low × Few high × (low ≤ℤ high))) (λ e. (count_of e.low ≡ low) × (count_of e.high ≡ high)) }
     {
         if low > high {
             return None;
@@ -28,18 +29,52 @@ impl Entry {
     }
 }
 
-// A sign and what stands right of it.
+// A range that stands in a formula, and how it is written there.
 #[derive(Clone, Copy)]
-pub struct Link {
-    pub sign: Sign,
+pub struct Operand<'a> {
+    pub text: &'a str,
     pub entry: Entry,
 }
 
-// An entry, and then steps from the left.
+impl<'a> Operand<'a> {
+    // With the sign that it stands right of.
+    pub(crate) fn after(self, sign: Sign) -> Link<'a>
+        ensures { result ≡ record { sign = sign; operand = self.entry } }
+    {
+        Link {
+            sign,
+            operand: self,
+        }
+    }
+}
+
+// A sign and what stands right of it.
+#[derive(Clone, Copy)]
+pub struct Link<'a> {
+    pub sign: Sign,
+    pub operand: Operand<'a>,
+}
+
+// An operand, and then steps from the left.
 #[derive(Clone, Copy)]
 pub struct Working<'a> {
-    pub first: Entry,
-    pub links: &'a [Link],
+    pub first: Operand<'a>,
+    pub links: &'a [Link<'a>],
+}
+
+impl<'a> Working<'a> {
+    ghost use Rattle.std.specs.Prelude.{[]};
+    ghost use Rattle.figures.specs.Workings.{given, chained};
+
+    // One operand and no step.
+    pub(crate) fn alone(operand: Operand<'a>) -> Working<'a>
+        ensures { chained result ≡ record { first = given operand.entry.entry; rest = [] } }
+    {
+        Working {
+            first: operand,
+            links: &[],
+        }
+    }
 }
 
 // The form that a working is done in.

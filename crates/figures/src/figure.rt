@@ -18,18 +18,18 @@ fn taken<F: Form>(entry: Entry) -> Range<F>
 
 // The range of a working.
 fn worked<F: Form>(working: Working<'_>) -> Result<Range<F>, Refusal>
-    ensures { Related (λ x. Alike (span F.Grid.gauge x)) result (comes F.Grid.gauge (chained working.entry.first working.entry.links.now)) }
+    ensures { Related (λ x. Alike (span F.Grid.gauge x)) result (comes F.Grid.gauge (chained working.entry)) }
 {
-    let mut range = taken(working.first);
+    let mut range = taken(working.first.entry);
     for link in working.links {
-        range = range.step(link.sign, taken(link.entry))?;
+        range = range.step(link.sign, taken(link.operand.entry))?;
     }
     Ok(range)
 }
 
 // The ends of a working's range.
 fn read<F: Exact>(working: Working<'_>) -> Result<Ends, Refusal>
-    ensures { Related Reads result (comes F.Grid.gauge (chained working.entry.first working.entry.links.now)) }
+    ensures { Related Reads result (comes F.Grid.gauge (chained working.entry)) }
 {
     let range = worked::<F>(working)?;
     Ok(Ends {
@@ -40,7 +40,7 @@ fn read<F: Exact>(working: Working<'_>) -> Result<Ends, Refusal>
 
 // The verdict over two workings.
 fn checked<F: Form>(kind: Kind, left: Working<'_>, right: Working<'_>) -> Result<Verdict, Refusal>
-    ensures { result ≡ sides F.Grid.gauge kind (comes F.Grid.gauge (chained left.entry.first left.entry.links.now)) (comes F.Grid.gauge (chained right.entry.first right.entry.links.now)) }
+    ensures { result ≡ sides F.Grid.gauge kind (comes F.Grid.gauge (chained left.entry)) (comes F.Grid.gauge (chained right.entry)) }
 {
     let left = worked::<F>(left)?;
     let right = worked::<F>(right)?;
@@ -49,7 +49,7 @@ fn checked<F: Form>(kind: Kind, left: Working<'_>, right: Working<'_>) -> Result
 
 // What a working comes to in a form. The known figures are such.
 pub fn figure(form: FormName, working: Working<'_>) -> Result<Ends, Refusal>
-    ensures answer { Related Reads result (comes_in form (chained working.entry.first working.entry.links.now)) }
+    ensures answer { Related Reads result (comes_in form (chained working.entry)) }
     ensures stand { AllStand known }
 {
     match form {
@@ -65,7 +65,7 @@ pub fn verdict(
     left: Working<'_>,
     right: Working<'_>,
 ) -> Result<Verdict, Refusal>
-    ensures { result ≡ judged_in form kind (chained left.entry.first left.entry.links.now) (chained right.entry.first right.entry.links.now) }
+    ensures { result ≡ judged_in form kind (chained left.entry) (chained right.entry) }
 {
     match form {
         FormName::Mil => checked::<Mil>(kind, left, right),

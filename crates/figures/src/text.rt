@@ -1,6 +1,9 @@
 // How figures are written.
-use crate::entry::{Ends, FormName};
-use ranges::{Sign, Verdict};
+ghost use Rattle.std.specs.Prelude.{◌≡◌, Some, false, IfOk, string_bytes};
+ghost use Rattle.figures.specs.Texts.{form_word, is_sum, joined};
+
+use crate::entry::{Ends, FormName, Link};
+use ranges::Sign;
 use std::alloc::{AllocError, Global};
 use std::fmt;
 
@@ -26,7 +29,7 @@ impl fmt::Display for Decimal {
             if rest > 0 {
                 let digit = rest / place;
                 write!(f, "{digit}")?;
-                rest = rest % place;
+                rest %= place;
             }
         }
         Ok(())
@@ -49,37 +52,57 @@ impl fmt::Display for Ends {
     }
 }
 
-pub(crate) fn word(verdict: Verdict) -> &'static str {
-    match verdict {
-        Verdict::Holds => "holds",
-        Verdict::Breaks => "breaks",
-        Verdict::Open => "open",
+impl fmt::Display for FormName {
+    ghost output = { λ form. Some (form_word form) };
+
+    fn fmt<W: fmt::Write>(&self, f: &mut fmt::Formatter<W>) -> fmt::Result {
+        match self {
+            FormName::Mil => f.write_str("mil"),
+            FormName::Sig => f.write_str("sig"),
+        }
     }
 }
 
-pub(crate) fn form_word(form: FormName) -> &'static str {
-    match form {
-        FormName::Mil => "mil",
-        FormName::Sig => "sig",
-    }
-}
-
-// A formula with one sign more; what stands left of a product or quotient is put in parentheses if it is a sum.
-pub(crate) fn joined(
-    heap: Global,
-    left: &str,
+// A formula as it is written, and whether its last sign is that of a sum or a difference.
+#[derive(Drop)]
+pub(crate) struct Formula {
+    text: String,
     sum: bool,
-    sign: Sign,
-    right: &str,
-) -> Result<String, AllocError> {
-    match (sign, sum) {
-        (Sign::Plus, _) => format!(in heap; "{left}+{right}"),
-        (Sign::Minus, _) => format!(in heap; "{left}-{right}"),
-        (Sign::Times, true) => format!(in heap; "({left})*{right}"),
-        (Sign::Times, false) => format!(in heap; "{left}*{right}"),
-        (Sign::Over, true) => format!(in heap; "({left})/{right}"),
-        (Sign::Over, false) => format!(in heap; "{left}/{right}"),
-        (Sign::Least, _) => format!(in heap; "min({left},{right})"),
-        (Sign::Greatest, _) => format!(in heap; "max({left},{right})"),
+}
+
+impl Formula {
+    pub(crate) fn new(heap: Global, first: &str) -> Result<Formula, AllocError>
+        ensures { IfOk result (λ f. (string_bytes f.text ≡ first.now) × (f.sum ≡ false)) }
+    {
+        Ok(Formula {
+            text: String::from_str(heap, first)?,
+            sum: false,
+        })
+    }
+
+    pub(crate) fn as_str(&self) -> &str
+        ensures { result.now ≡ string_bytes self.now.text }
+    {
+        self.text.as_str()
+    }
+
+    // With one link more; what stands left of a product or quotient is put in parentheses if it is a sum.
+    pub(crate) fn joined(&self, heap: Global, link: Link<'_>) -> Result<Formula, AllocError>
+        ensures { IfOk result (λ f. (string_bytes f.text ≡ joined (string_bytes self.now.text) self.now.sum link.entry.sign link.entry.operand.text.now) × (f.sum ≡ is_sum link.entry.sign)) }
+    {
+        let left = self.text.as_str();
+        let right = link.operand.text;
+        let text = match (link.sign, self.sum) {
+            (Sign::Plus, _) => format!(in heap; "{left}+{right}"),
+            (Sign::Minus, _) => format!(in heap; "{left}-{right}"),
+            (Sign::Times, true) => format!(in heap; "({left})*{right}"),
+            (Sign::Times, false) => format!(in heap; "{left}*{right}"),
+            (Sign::Over, true) => format!(in heap; "({left})/{right}"),
+            (Sign::Over, false) => format!(in heap; "{left}/{right}"),
+            (Sign::Least, _) => format!(in heap; "min({left},{right})"),
+            (Sign::Greatest, _) => format!(in heap; "max({left},{right})"),
+        }?;
+        let sum = matches!(link.sign, Sign::Plus | Sign::Minus);
+        Ok(Formula { text, sum })
     }
 }

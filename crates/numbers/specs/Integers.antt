@@ -1,11 +1,11 @@
 -- Products of integers and their order. Assumes nothing.
-use Rattle.std.specs.Prelude.{◌≡◌, ℕ, zero, suc, ◌+◌, ◌*◌, ◌<◌, ◌≤◌, ℤ, pos, negsuc, ◌+ℤ◌, ◌*ℤ◌, neg_ℤ, ◌≤ℤ◌, ◌<ℤ◌, FitsSigned, unsigned_abs, refl}
+use Rattle.std.specs.Prelude.{◌≡◌, ℕ, ◌+◌, ◌*◌, ◌<◌, ◌≤◌, ℤ, pos, negsuc, ◌+ℤ◌, ◌*ℤ◌, neg_ℤ, ◌≤ℤ◌, ◌<ℤ◌, FitsSigned, unsigned_abs}
 use Rattle.std.proofs.Common.{sym, ap, ◌∙◌, subst, arith, mul-pos, mul-le-mul, mul-le-mul_right, le_of_mul-le-mul_right, lt_of_mul-lt-mul_right, ltb→lt, lt→ltb, to_z, of_z}
-use borrow.Author.Differences.{ints, up, down, le_out, at_most_in, below_in, same_in, product_is, neg_is, sum_is_lem}
+use borrow.Author.Differences.{up, down, le_out, at_most_in, below_in, same_in, product_is, neg_is, sum_is_lem}
 use Rattle.std.proofs.Math.IntN.{*ℤ_comm, +ℤ_assoc, +ℤ_comm}
 use Rattle.std.specs.Int.Signed.{lt_z_yes, clash_ℤ}
-use Rattle.std.specs.Int.{Width, w64}
-use Rattle.std.proofs.lemmas.Int.{by_lt_z, to_z-of_z}
+use Rattle.std.specs.Int.{Width}
+use Rattle.std.proofs.lemmas.Int.{ints, by_lt_z, to_z-of_z, unsigned_abs-mul}
 
 pub mul_le : (a b : ℤ) (k : ℕ) → a ≤ℤ b → (a *ℤ pos k) ≤ℤ (b *ℤ pos k)
 mul_le a b k h = omega (arith, ints, mul-le-mul_right k (le_out a b h))
@@ -33,6 +33,9 @@ up_neg a = (neg_is a).0
 pub down_neg : (a : ℤ) → down (neg_ℤ a) ≡ up a
 down_neg a = (neg_is a).1
 
+pub times_one : (a : ℤ) → a *ℤ pos 1 ≡ a
+times_one a = omega (arith, ints)
+
 pub times_assoc : (a b c : ℤ) → (a *ℤ b) *ℤ c ≡ a *ℤ (b *ℤ c)
 times_assoc a b c = same_in _ _ (simp (up_mul, down_mul) (omega arith))
 
@@ -48,36 +51,13 @@ mul_split a m n = same_in _ _ (simp (up_mul, down_mul) (omega arith))
 pub neg_right : (a b : ℤ) → a *ℤ neg_ℤ b ≡ neg_ℤ (a *ℤ b)
 neg_right a b = same_in _ _ (simp (up_mul, down_mul, up_neg, down_neg, up_mul, down_mul) (omega arith))
 
-nat_abs_neg : (n : ℕ) → unsigned_abs (neg_ℤ (pos n)) ≡ n
-nat_abs_neg zero = refl
-nat_abs_neg (suc n) = refl
-
-nat_abs_mul : (a b : ℤ) → unsigned_abs (a *ℤ b) ≡ unsigned_abs a * unsigned_abs b
-nat_abs_mul (pos a) (pos b) = refl
-nat_abs_mul (pos a) (negsuc b) = nat_abs_neg (a * suc b)
-nat_abs_mul (negsuc a) (pos b) = nat_abs_neg (suc a * b)
-nat_abs_mul (negsuc a) (negsuc b) = refl
-
 -- a bound on a product
 pub mul_bound : (a b : ℤ) (m n : ℕ) → unsigned_abs a ≤ m → unsigned_abs b ≤ n → unsigned_abs (a *ℤ b) ≤ m * n
-mul_bound a b m n h k = rw (nat_abs_mul a b) (mul-le-mul h k)
+mul_bound a b m n h k = rw (unsigned_abs-mul a b) (mul-le-mul h k)
 
 -- a product that went to bits and is read again: its factors p and q are a and b
 pub product_back : (w : Width) {p q : ℤ} (a b : ℤ) → FitsSigned w (a *ℤ b) → p ≡ a → q ≡ b → to_z w (of_z w (p *ℤ q)) ≡ a *ℤ b
 product_back w a b fits e f = rw (e, f) (to_z-of_z w (a *ℤ b) fits)
-
--- so for two numbers whose product fits 64 bits
-pub record Narrow (p q a b : ℤ) : Type 0 where
-  pub fits : FitsSigned w64 (p *ℤ q)
-  pub is : to_z w64 (of_z w64 (p *ℤ q)) ≡ a *ℤ b
-  pub small : unsigned_abs (to_z w64 (of_z w64 (p *ℤ q))) ≤ 9223372030926249001
-
-pub narrow : (p q a b : ℤ) → unsigned_abs a ≤ 3037000499 → unsigned_abs b ≤ 3037000499 → p ≡ a → q ≡ b → Narrow p q a b
-narrow p q a b h k e f =
-    let bound = mul_bound a b 3037000499 3037000499 h k in
-    let fits : FitsSigned w64 (a *ℤ b) = omega (arith, ints) in
-    let is = product_back w64 a b fits e f in
-    record { fits = rw (e, f) fits; is = is; small = rw is bound }
 
 pub spread : (a b c : ℤ) → a *ℤ (b +ℤ c) ≡ a *ℤ b +ℤ a *ℤ c
 spread a b c = *ℤ_comm a (b +ℤ c) ∙ spread_left b c a ∙ ap (λ x. x +ℤ c *ℤ a) (*ℤ_comm b a) ∙ ap (λ x. a *ℤ b +ℤ x) (*ℤ_comm c a)

@@ -1,6 +1,8 @@
 pub mod Fractions
 pub mod Grids
+pub mod Given
 pub mod Steps
+pub mod Scales
 pub mod Digits
 pub mod Forms
 pub mod Evenly

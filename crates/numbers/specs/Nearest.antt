@@ -1,9 +1,9 @@
 -- The nearest whole number of the form a * 10^j, with a of at most six digits. Assumes nothing.
 use Rattle.std.specs.Prelude.{◌≡◌, ℕ, zero, suc, ◌+◌, ◌-◌, ◌*◌, ◌^◌, ◌<◌, ◌≤◌, Bool, true, false, cond, ◌⊎◌, ℤ, pos, ◌*ℤ◌, neg_ℤ, ◌≤ℤ◌, nat_le, unsigned_abs, refl}
 use Rattle.std.proofs.Common.{sym, ◌∙◌, ap, inl, inr, arith, mul-le-mul, add-one, pow-add, leb-true, leb-false}
-use borrow.Author.Differences.{ints, same_in}
+use borrow.Author.Differences.{same_in}
 use Rattle.std.specs.Int.{int_div_euclid}
-use Rattle.std.proofs.lemmas.Int.{by_lt_z}
+use Rattle.std.proofs.lemmas.Int.{ints, by_lt_z}
 use Rattle.numbers.specs.declared.grid.Rounding.{Rounding}
 use Rattle.numbers.specs.declared.grid.Rounding.TheVariants.{Down, Up}
 use Rattle.numbers.specs.Fractions.{millionths}

@@ -1,6 +1,7 @@
 -- Rounding to a grid. Assumes nothing.
-use Rattle.std.specs.Prelude.{◌≡◌, ℕ, ◌*◌, ◌<◌, ℤ, pos, ◌+ℤ◌, ◌-ℤ◌, ◌*ℤ◌, neg_ℤ, ◌≤ℤ◌, ◌<ℤ◌, Ok, Err, Result}
+use Rattle.std.specs.Prelude.{ℕ, ◌*◌, ◌<◌, ℤ, pos, ◌+ℤ◌, ◌-ℤ◌, ◌*ℤ◌, ◌≤ℤ◌, ◌<ℤ◌, Ok, Err, Result}
 use Rattle.std.proofs.Common.{sym, ap, ◌∙◌, arith, mul_comm, inl, inr}
+use Rattle.std.proofs.Math.IntN.{neg_ℤ-neg_ℤ}
 use Rattle.std.proofs.lemmas.Int.{ints}
 use Rattle.numbers.specs.declared.grid.Rounding.{Rounding}
 use Rattle.numbers.specs.declared.grid.Rounding.TheVariants.{Down, Up}
@@ -69,10 +70,7 @@ pub parted : (s : ℕ) (q : Fraction) (h : 0 < s * q.den) → over (s * q.den) h
 parted s q h = alike (sym (mul_split q.num q.den s) ∙ ap (λ (n : ℕ). q.num *ℤ pos n) (mul_comm q.den s))
 
 pub neg_neg : (p : Fraction) → (-ᶠ◌ (-ᶠ◌ p)) ≈ᶠ p
-neg_neg p = alike (ap (λ (n : ℤ). n *ℤ pos p.den) (twice p.num))
-  where
-    twice : (n : ℤ) → neg_ℤ (neg_ℤ n) ≡ n
-    twice n = omega (arith, ints)
+neg_neg p = alike (ap (λ (n : ℤ). n *ℤ pos p.den) (neg_ℤ-neg_ℤ p.num))
 
 -- a grid with all negatives that rounds down by computing rounds up by it
 pub computes_up : {V : Type 0} (G : Gauge V) → ((v : V) → (w : V) × (G.meaning w ≈ᶠ (-ᶠ◌ (G.meaning v)))) → Computes G Down → Computes G Up

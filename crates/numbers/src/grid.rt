@@ -1,6 +1,8 @@
 // Grids of fractions, and forms of numbers that round to them.
-ghost use Rattle.std.specs.Prelude.{◌≡◌, MatchOption};
-ghost use Rattle.numbers.specs.Grids.{Gauge, IsGrid, Compares, Negates, Takes, Shows, Adds, Multiplies, Divides, Few};
+ghost use Rattle.numbers.specs.Grids.{Gauge, IsGrid, Compares, Negates, Takes, Shows, Adds, Multiplies, Divides};
+ghost use Rattle.numbers.specs.Given.{count_of};
+
+use crate::thousandths::Thousandths;
 
 // Down is to the greatest value not above, up to the least not below.
 #[derive(Clone, Copy)]
@@ -16,34 +18,6 @@ pub enum Refusal {
     ZeroDivisor = 14,
 }
 
-// A whole count of thousandths, at most 999,999,999 on either side of zero.
-#[derive(Clone, Copy)]
-pub struct Thousandths {
-    count: i32,
-    ghost few: { Few count },
-}
-
-impl Thousandths {
-    pub const ZERO: Thousandths = Thousandths { count: 0 };
-
-    // None where there are too many.
-    pub fn new(count: i32) -> Option<Thousandths>
-        ensures { MatchOption result (Few count → ⊥) (λ t. t.count ≡ count) }
-    {
-        if -999_999_999 <= count && count <= 999_999_999 {
-            Some(Thousandths { count })
-        } else {
-            None
-        }
-    }
-
-    pub fn count(self) -> i32
-        ensures { result ≡ self.count }
-    {
-        self.count
-    }
-}
-
 // Values that each mean a fraction, of a finite set that holds zero and all negatives.
 pub trait Grid: Copy {
     // The fraction that a value means, the greatest of them, and how a fraction is rounded.
@@ -56,7 +30,7 @@ pub trait Grid: Copy {
         ensures { Negates gauge self result };
 
     fn take(given: Thousandths, rounding: Rounding) -> Self
-        ensures { Takes gauge rounding given.count result };
+        ensures { Takes gauge rounding (count_of given) result };
 
     // The value in whole thousandths.
     fn show(self, rounding: Rounding) -> i64

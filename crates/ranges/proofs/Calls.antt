@@ -1,6 +1,5 @@
 -- From a form's answers to the steps on ranges. Assumes nothing.
-use Rattle.std.proofs.Common.{◌≡◌, Bool, true, false, cond, not, ◌⊎◌, Ok, Err, refl, inl, inr}
-use Rattle.std.proofs.lemmas.Bool.{false≢true}
+use Rattle.std.proofs.Common.{◌≡◌, Bool, true, false, cond, ◌⊎◌, Ok, Err, Result, IsErrAnd, inl, inr}
 use Rattle.numbers.specs.declared.grid.Rounding.{Rounding}
 use Rattle.numbers.specs.declared.grid.Rounding.TheVariants.{Down, Up}
 use Rattle.numbers.specs.declared.grid.Refusal.{Refusal}
@@ -8,17 +7,12 @@ use Rattle.numbers.specs.declared.grid.Refusal.TheVariants.{BeyondReach, ZeroDiv
 use Rattle.ranges.specs.declared.range.Range.{Range}
 use Rattle.ranges.specs.declared.verdict.Kind.TheVariants.{Root}
 use Rattle.ranges.specs.declared.verdict.Verdict.{Verdict}
-use Rattle.numbers.specs.Fractions.{Fraction, zeroᶠ, ◌≤ᶠ◌, ◌<ᶠ◌, ◌≈ᶠ◌, leᶠ, minᶠ, maxᶠ, ◌*ᶠ◌}
-use Rattle.numbers.specs.Grids.{Gauge, InReach, Beyond, IsRounded, Answers}
+use Rattle.numbers.specs.Fractions.{Fraction, zeroᶠ, ◌≤ᶠ◌, ◌≈ᶠ◌, leᶠ, minᶠ, maxᶠ, ◌÷ᶠ◌}
+use Rattle.numbers.specs.Grids.{Gauge, InReach, Beyond, IsRounded, Answers, AnswersOver}
 use Rattle.ranges.specs.Ranges.{Interval, span, ◌∈ᶠ◌, corners, end, outer, outermost, bound, Corner, HoldsZero, IsStep}
 use Rattle.ranges.specs.Verdicts.{Judged, RootHolds, RootBreaks, SquareOf, SquareBeyond, Judges}
-use Rattle.numbers.specs.Orders.{byᶠ, below_le, ≤ᶠ_refl, ≤ᶠ_trans, clashᶠ, <ᶠ-≤ᶠ_trans, ≤ᶠ-<ᶠ_trans, min_ind, max_ind, min_left, min_right, max_left, max_right}
+use Rattle.numbers.specs.Orders.{byᶠ, below_le, ≤ᶠ_refl, ≤ᶠ_trans, <ᶠ-≤ᶠ_trans, ≤ᶠ-<ᶠ_trans, min_ind, max_ind, min_left, min_right, max_left, max_right}
 use Rattle.numbers.specs.Roundings.{rounded_exact, not_beyond}
-
--- a test that does not pass
-pub untrue : (b : Bool) → (b ≡ true → ⊥) → not b ≡ true
-untrue true n = absurd (n refl)
-untrue false n = refl
 
 -- a range with an end that is zero holds zero
 pub zero_low : (b : Interval) → b.low ≈ᶠ zeroᶠ → HoldsZero b
@@ -60,14 +54,21 @@ module _ {V : Type 0} (G : Gauge V) where
     λ x h. ≤ᶠ_trans m.0 (max_ind (λ z. z ≤ᶠ G.meaning x) (G.meaning v) (G.meaning w) (λ _. d.1 x (≤ᶠ_trans (max_left p q) h)) (λ _. e.1 x (≤ᶠ_trans (max_right p q) h))),
   )
 
+  -- a quotient whose divisor is not zero
+  pub divided : (to : Rounding) (p d : Fraction) (o : Result V Refusal) → ¬ (d ≈ᶠ zeroᶠ) → AnswersOver G to p d o → Answers G to (p ÷ᶠ d) o
+  divided to p d (Ok v) n h = h.1
+  divided to p d (Err BeyondReach) n h = h.1
+  divided to p d (Err ZeroDivisor) n h = n h
+
   beyond_end : {c : Fraction} (a : Interval) → a.low ≤ᶠ c → c ≤ᶠ a.high → Beyond G c → Beyond G a.low ⊎ Beyond G a.high
   beyond_end a h k (inl b) = inl (inl (≤ᶠ-<ᶠ_trans h b))
   beyond_end a h k (inr b) = inr (inr (<ᶠ-≤ᶠ_trans b k))
 
   -- a pairing that is refused refuses the end
-  pub corner_refused : (to : Rounding) (a : Interval) {c : Fraction} (e : Refusal) → (a.low ≤ᶠ c) × (c ≤ᶠ a.high) → Answers G to c (Err e) → Corner G to a (Err e)
-  corner_refused to a BeyondReach i h = beyond_end a i.0 i.1 h
-  corner_refused to a ZeroDivisor i h = h
+  pub corner_refused : (to : Rounding) (a : Interval) {c : Fraction} (e : Refusal) → c ∈ᶠ a → Answers G to c (Err e) → (o : Result V Refusal) → IsErrAnd o (λ x. x ≡ e) → Corner G to a o
+  corner_refused to a e i h (Ok v) w = absurd w
+  corner_refused to a BeyondReach i h (Err x) w = rw w (beyond_end a i.0 i.1 h)
+  corner_refused to a ZeroDivisor i h (Err x) w = absurd h
 
   -- the farther of two values means the farther of their fractions
   outermost_is : (to : Rounding) (x y : V) → G.meaning (outermost G to x y) ≈ᶠ outer to (G.meaning x) (G.meaning y)
@@ -131,15 +132,6 @@ module _ {V : Type 0} (G : Gauge V) where
       at Up = (λ u. u, reach Up a.low b.low, reach Up a.high b.high, (rounded_exact G.meaning Down _ (outermost_is Up a.low b.low), rounded_exact G.meaning Up _ (outermost_is Up a.high b.high)))
 
   -- ---- verdicts
-
-  square_refused : (to : Rounding) {x : Fraction} (e : Refusal) → SquareOf G to x (Err e) → (zeroᶠ <ᶠ x) × Answers G to (x *ᶠ x) (Err e)
-  square_refused to {x} e h = byᶠ zeroᶠ x (λ p. (p, h.0 p)) (λ q. absurd (false≢true (h.1 (λ p. clashᶠ p q))))
-
-  pub root_refused : (to : Rounding) (a b : Interval) (e : Refusal) → SquareOf G to a.high (Err e) ⊎ SquareOf G to a.low (Err e) → Judges G Root a b (Err e)
-  root_refused to a b BeyondReach (inl h) = inl (square_refused to BeyondReach h)
-  root_refused to a b BeyondReach (inr h) = inr (square_refused to BeyondReach h)
-  root_refused to a b ZeroDivisor (inl h) = (square_refused to ZeroDivisor h).1
-  root_refused to a b ZeroDivisor (inr h) = (square_refused to ZeroDivisor h).1
 
   pub root_judged : (a b : Interval) (up down : V) (v : Verdict) → SquareOf G Up a.high (Ok up) → SquareOf G Down a.low (Ok down) →
       Judged (RootHolds G a b up) (RootBreaks G a b down) v → Judges G Root a b (Ok v)

@@ -1,6 +1,7 @@
 -- Steps and verdicts by computing are those that are defined. Assumes nothing.
 use Rattle.std.proofs.Common.{◌≡◌, Bool, true, false, cond, not, ◌&&◌, ◌||◌, T, ◌⊎◌, Ok, Err, Decides, Result, sym, refl, ap, subst, inl, inr}
-use Rattle.std.proofs.lemmas.Bool.{false≢true, both_ways}
+use Rattle.std.proofs.lemmas.Bool.{false≢true}
+use Rattle.std.proofs.lemmas.Bool.Decides.{Decides-and, Decides-or, Decides-not, Decides-like, not_from_Decides}
 use Rattle.numbers.specs.declared.grid.Rounding.{Rounding}
 use Rattle.numbers.specs.declared.grid.Rounding.TheVariants.{Down, Up}
 use Rattle.numbers.specs.declared.grid.Refusal.{Refusal}
@@ -29,40 +30,22 @@ decides_le p q = go (leᶠ p q) refl
     go false e = (λ f. absurd (false≢true f), λ h. clashᶠ (leᶠ_no p q (subst (λ (t : Bool). T (not t)) (sym e) tt)) h)
 
 decides_lt : (p q : Fraction) → Decides (not (leᶠ q p)) (p <ᶠ q)
-decides_lt p q = go (leᶠ q p) (decides_le q p)
-  where
-    go : (t : Bool) → Decides t (q ≤ᶠ p) → Decides (not t) (p <ᶠ q)
-    go true d = (λ f. absurd (false≢true f), λ h. clashᶠ h (d.0 refl))
-    go false d = (λ _. below_of_not (λ h. false≢true (d.1 h)), λ _. refl)
-
-both : (x y : Bool) {P Q : Type 0} → Decides x P → Decides y Q → Decides (x && y) (P × Q)
-both true true d e = (λ _. (d.0 refl, e.0 refl), λ _. refl)
-both true false d e = (λ f. absurd (false≢true f), λ h. e.1 h.1)
-both false y d e = (λ f. absurd (false≢true f), λ h. d.1 h.0)
-
-either : (x y : Bool) {P Q : Type 0} → Decides x P → Decides y Q → Decides (x || y) (P ⊎ Q)
-either true y d e = (λ _. inl (d.0 refl), λ _. refl)
-either false true d e = (λ _. inr (e.0 refl), λ _. refl)
-either false false d e = (λ f. absurd (false≢true f), λ h. elim h [ inl p ↦ d.1 p | inr q ↦ e.1 q ])
-
--- what does not decide is false
-denied : {x : Bool} {P : Type 0} → Decides x P → x ≡ false → P → ⊥
-denied {x} d e p = both_ways x e (d.1 p)
+decides_lt p q = Decides-like (not (leᶠ q p)) below_of_not (λ h k. clashᶠ h k) (Decides-not (leᶠ q p) (decides_le q p))
 
 decides_undefined : (s : Sign) (b : Interval) → Decides (undefined s b) (Undefined s b)
 decides_undefined Plus b = (λ f. false≢true f, λ h. absurd h)
 decides_undefined Minus b = (λ f. false≢true f, λ h. absurd h)
 decides_undefined Times b = (λ f. false≢true f, λ h. absurd h)
 decides_undefined Over b =
-    either (leᶠ b.low zeroᶠ && leᶠ zeroᶠ b.high) (leᶠ b.high zeroᶠ && leᶠ zeroᶠ b.low)
-    (both (leᶠ b.low zeroᶠ) (leᶠ zeroᶠ b.high) (decides_le b.low zeroᶠ) (decides_le zeroᶠ b.high))
-    (both (leᶠ b.high zeroᶠ) (leᶠ zeroᶠ b.low) (decides_le b.high zeroᶠ) (decides_le zeroᶠ b.low))
+    Decides-or (leᶠ b.low zeroᶠ && leᶠ zeroᶠ b.high) (leᶠ b.high zeroᶠ && leᶠ zeroᶠ b.low)
+    (Decides-and (leᶠ b.low zeroᶠ) (leᶠ zeroᶠ b.high) (decides_le b.low zeroᶠ) (decides_le zeroᶠ b.high))
+    (Decides-and (leᶠ b.high zeroᶠ) (leᶠ zeroᶠ b.low) (decides_le b.high zeroᶠ) (decides_le zeroᶠ b.low))
 decides_undefined Least b = (λ f. false≢true f, λ h. absurd h)
 decides_undefined Greatest b = (λ f. false≢true f, λ h. absurd h)
 
 module _ {V : Type 0} (G : Gauge V) where
   decides_reach : (q : Fraction) → Decides (in_reach G q) (InReach G q)
-  decides_reach q = both (leᶠ (-ᶠ◌ G.top) q) (leᶠ q G.top) (decides_le (-ᶠ◌ G.top) q) (decides_le q G.top)
+  decides_reach q = Decides-and (leᶠ (-ᶠ◌ G.top) q) (leᶠ q G.top) (decides_le (-ᶠ◌ G.top) q) (decides_le q G.top)
 
   beyond_by : (q : Fraction) → (InReach G q → ⊥) → Beyond G q
   beyond_by q n = go (leᶠ (-ᶠ◌ G.top) q) (decides_le (-ᶠ◌ G.top) q)
@@ -80,7 +63,7 @@ module _ {V : Type 0} (G : Gauge V) where
     -- ---- steps
 
     within : (a : Interval) → Decides (in_reach G a.low && in_reach G a.high) (InReach G a.low × InReach G a.high)
-    within a = both (in_reach G a.low) (in_reach G a.high) (decides_reach a.low) (decides_reach a.high)
+    within a = Decides-and (in_reach G a.low) (in_reach G a.high) (decides_reach a.low) (decides_reach a.high)
 
     pub step_agrees : (s : Sign) (a b : Interval) (o : Result (Range V) Refusal) → IsStep G s a b o → Related (SameEnds G) o (worked G s a b)
     step_agrees s a b o w = go o (undefined s b) (in_reach G (ends s a b).low && in_reach G (ends s a b).high) (decides_undefined s b) (within (ends s a b)) w
@@ -105,9 +88,9 @@ module _ {V : Type 0} (G : Gauge V) where
         go false true true d e f =
             let (l, _, low) = grid.computes Down (ends s a b).low (e.0 refl) in
             let (h, _, high) = grid.computes Up (ends s a b).high (f.0 refl) in
-            (Ok (record { low = l; high = h }), (denied d refl, e.0 refl, f.0 refl, (low, high)))
-        go false false v d e f = (Err BeyondReach, (denied d refl, inl (beyond_by (ends s a b).low (denied e refl))))
-        go false true false d e f = (Err BeyondReach, (denied d refl, inr (beyond_by (ends s a b).high (denied f refl))))
+            (Ok (record { low = l; high = h }), (not_from_Decides false d refl, e.0 refl, f.0 refl, (low, high)))
+        go false false v d e f = (Err BeyondReach, (not_from_Decides false d refl, inl (beyond_by (ends s a b).low (not_from_Decides false e refl))))
+        go false true false d e f = (Err BeyondReach, (not_from_Decides false d refl, inr (beyond_by (ends s a b).high (not_from_Decides false f refl))))
 
     -- ---- verdicts
 
@@ -121,12 +104,11 @@ module _ {V : Type 0} (G : Gauge V) where
     decided_is false false Breaks d e j = absurd (false≢true (e.1 j.1))
     decided_is false false Open d e j = refl
 
+    decides_beyond : (q : Fraction) → Decides (not (in_reach G q)) (Beyond G q)
+    decides_beyond q = Decides-like (not (in_reach G q)) (beyond_by q) (λ b i. not_beyond G i b) (Decides-not (in_reach G q) (decides_reach q))
+
     decides_bursts : (x : Fraction) → Decides (bursts G x) (Bursts G x)
-    decides_bursts x = both (above x) (not (in_reach G (x *ᶠ x))) (decides_lt zeroᶠ x) (go (in_reach G (x *ᶠ x)) (decides_reach (x *ᶠ x)))
-      where
-        go : (t : Bool) → Decides t (InReach G (x *ᶠ x)) → Decides (not t) (Beyond G (x *ᶠ x))
-        go true d = (λ f. absurd (false≢true f), λ b. absurd (not_beyond G (d.0 refl) b))
-        go false d = (λ _. beyond_by (x *ᶠ x) (denied d refl), λ _. refl)
+    decides_bursts x = Decides-and (above x) (not (in_reach G (x *ᶠ x))) (decides_lt zeroᶠ x) (decides_beyond (x *ᶠ x))
 
     -- a square that does not burst is in reach
     squared : {x : Fraction} → (Bursts G x → ⊥) → zeroᶠ <ᶠ x → InReach G (x *ᶠ x)
@@ -134,7 +116,7 @@ module _ {V : Type 0} (G : Gauge V) where
       where
         go : (t : Bool) → Decides t (InReach G (x *ᶠ x)) → InReach G (x *ᶠ x)
         go true d = d.0 refl
-        go false d = absurd (n (p, beyond_by (x *ᶠ x) (denied d refl)))
+        go false d = absurd (n (p, beyond_by (x *ᶠ x) (not_from_Decides false d refl)))
 
     module _ (a b : Interval) (n : SquareBeyond G a → ⊥) (s : Squares G a) where
       up_is : zeroᶠ <ᶠ a.high → G.meaning s.up ≈ᶠ rounded G Up (a.high *ᶠ a.high)
@@ -149,11 +131,11 @@ module _ {V : Type 0} (G : Gauge V) where
           go : (t u : Bool) → Decides t (a.high ≤ᶠ zeroᶠ) → Decides u (rounded G Up (a.high *ᶠ a.high) ≤ᶠ b.low) → Decides (t || u) ((a.high ≤ᶠ zeroᶠ) ⊎ (G.meaning s.up ≤ᶠ b.low))
           go true u d e = (λ _. inl (d.0 refl), λ _. refl)
           go false u d e =
-              let same = up_is (below_of_not (denied d refl)) in
-              (λ t. inr (≤ᶠ_trans same.0 (e.0 t)), λ h. elim h [ inl x ↦ absurd (denied d refl x) | inr y ↦ e.1 (≤ᶠ_trans same.1 y) ])
+              let same = up_is (below_of_not (not_from_Decides false d refl)) in
+              (λ t. inr (≤ᶠ_trans same.0 (e.0 t)), λ h. elim h [ inl x ↦ absurd (not_from_Decides false d refl x) | inr y ↦ e.1 (≤ᶠ_trans same.1 y) ])
 
       decides_holds : Decides (root_holds G a b) (RootHolds G a b s.up)
-      decides_holds = both (leᶠ zeroᶠ b.low) (leᶠ a.high zeroᶠ || leᶠ (rounded G Up (a.high *ᶠ a.high)) b.low) (decides_le zeroᶠ b.low) holds_square
+      decides_holds = Decides-and (leᶠ zeroᶠ b.low) (leᶠ a.high zeroᶠ || leᶠ (rounded G Up (a.high *ᶠ a.high)) b.low) (decides_le zeroᶠ b.low) holds_square
 
       breaks_square : Decides (above a.low && not (leᶠ (rounded G Down (a.low *ᶠ a.low)) b.high)) ((zeroᶠ <ᶠ a.low) × (b.high <ᶠ G.meaning s.down))
       breaks_square = go (above a.low) (not (leᶠ (rounded G Down (a.low *ᶠ a.low)) b.high)) (decides_lt zeroᶠ a.low) (decides_lt b.high (rounded G Down (a.low *ᶠ a.low)))
@@ -162,15 +144,15 @@ module _ {V : Type 0} (G : Gauge V) where
           go true u d e =
               let same = down_is (d.0 refl) in
               (λ t. (d.0 refl, <ᶠ-≤ᶠ_trans (e.0 t) same.1), λ h. e.1 (<ᶠ-≤ᶠ_trans h.1 same.0))
-          go false u d e = (λ f. absurd (false≢true f), λ h. absurd (denied d refl h.0))
+          go false u d e = (λ f. absurd (false≢true f), λ h. absurd (not_from_Decides false d refl h.0))
 
       decides_breaks : Decides (root_breaks G a b) (RootBreaks G a b s.down)
-      decides_breaks = either (not (leᶠ zeroᶠ b.high)) (above a.low && not (leᶠ (rounded G Down (a.low *ᶠ a.low)) b.high)) (decides_lt b.high zeroᶠ) breaks_square
+      decides_breaks = Decides-or (not (leᶠ zeroᶠ b.high)) (above a.low && not (leᶠ (rounded G Down (a.low *ᶠ a.low)) b.high)) (decides_lt b.high zeroᶠ) breaks_square
 
     pub judge_agrees : (k : Kind) (a b : Interval) (o : Result Verdict Refusal) → Judges G k a b o → o ≡ judged G k a b
     judge_agrees Plain a b (Ok v) j = ap Ok (decided_is (leᶠ a.high b.low) (not (leᶠ a.low b.high)) v (decides_le a.high b.low) (decides_lt b.high a.low) j)
     judge_agrees Plain a b (Err e) j = absurd j
-    judge_agrees Root a b o j = go o (bursts G a.high || bursts G a.low) (either (bursts G a.high) (bursts G a.low) (decides_bursts a.high) (decides_bursts a.low)) j
+    judge_agrees Root a b o j = go o (bursts G a.high || bursts G a.low) (Decides-or (bursts G a.high) (bursts G a.low) (decides_bursts a.high) (decides_bursts a.low)) j
       where
         go : (o : Result Verdict Refusal) (t : Bool) → Decides t (SquareBeyond G a) → Judges G Root a b o → o ≡ cond t (Err BeyondReach) (Ok (decided (root_holds G a b) (root_breaks G a b)))
         go (Ok v) true d (n, (s, j)) = absurd (n (d.0 refl))
@@ -182,8 +164,8 @@ module _ {V : Type 0} (G : Gauge V) where
     -- every verdict is given
     judged_by : (h k : Bool) {H B : Type 0} → Decides h H → Decides k B → Judged H B (decided h k)
     judged_by true k d e = d.0 refl
-    judged_by false true d e = (denied d refl, e.0 refl)
-    judged_by false false d e = (denied d refl, denied e refl)
+    judged_by false true d e = (not_from_Decides false d refl, e.0 refl)
+    judged_by false false d e = (not_from_Decides false d refl, not_from_Decides false e refl)
 
     -- the square of an end that is above zero, or else any value
     square_end : (to : Rounding) (x : Fraction) → (Bursts G x → ⊥) → (v : V) × (zeroᶠ <ᶠ x → IsRounded G.meaning to (x *ᶠ x) v)
@@ -191,16 +173,16 @@ module _ {V : Type 0} (G : Gauge V) where
       where
         go : (t : Bool) → Decides t (zeroᶠ <ᶠ x) → (v : V) × (zeroᶠ <ᶠ x → IsRounded G.meaning to (x *ᶠ x) v)
         go true d = let (v, _, r) = grid.computes to (x *ᶠ x) (squared n (d.0 refl)) in (v, λ _. r)
-        go false d = (grid.zero.0, λ p. absurd (denied d refl p))
+        go false d = (grid.zero.0, λ p. absurd (not_from_Decides false d refl p))
 
     pub judge_exists : (k : Kind) (a b : Interval) → Judges G k a b (judged G k a b)
     judge_exists Plain a b = judged_by (leᶠ a.high b.low) (not (leᶠ a.low b.high)) (decides_le a.high b.low) (decides_lt b.high a.low)
-    judge_exists Root a b = go (bursts G a.high || bursts G a.low) (either (bursts G a.high) (bursts G a.low) (decides_bursts a.high) (decides_bursts a.low))
+    judge_exists Root a b = go (bursts G a.high || bursts G a.low) (Decides-or (bursts G a.high) (bursts G a.low) (decides_bursts a.high) (decides_bursts a.low))
       where
         go : (t : Bool) → Decides t (SquareBeyond G a) → Judges G Root a b (cond t (Err BeyondReach) (Ok (decided (root_holds G a b) (root_breaks G a b))))
         go true d = d.0 refl
         go false d =
-            let n = denied d refl in
+            let n = not_from_Decides false d refl in
             let (u, up) = square_end Up a.high (λ x. n (inl x)) in
             let (l, down) = square_end Down a.low (λ x. n (inr x)) in
             let s : Squares G a = record { up = u; down = l; up_is = up; down_is = down } in

@@ -1,6 +1,6 @@
 -- Operands that are the same ranges, in whatever terms, give the same results. Assumes nothing.
-use Rattle.std.proofs.Common.{◌≡◌, ℕ, ℤ, pos, neg_ℤ, ◌≤ℤ◌, Ok, Err, Result, sym, refl, ap, ◌∙◌, arith}
-use borrow.Author.Differences.{ints}
+use Rattle.std.proofs.Common.{◌≡◌, ℤ, pos, neg_ℤ, ◌≤ℤ◌, Ok, Err, Result, sym, refl, ap, ◌∙◌, arith}
+use Rattle.std.proofs.lemmas.Int.{ints}
 use Rattle.numbers.specs.declared.grid.Rounding.TheVariants.{Down, Up}
 use Rattle.numbers.specs.declared.grid.Refusal.{Refusal}
 use Rattle.numbers.specs.declared.grid.Refusal.TheVariants.{BeyondReach, ZeroDivisor}
@@ -44,8 +44,8 @@ module _ {V : Type 0} (G : Gauge V) (grid : IsGrid G) where
             (≤ᶠ_trans inner.0 l.0, ≤ᶠ_trans l.1 (≤ᶠ_trans inner.1 h.0), ≤ᶠ_trans h.1 inner.2),
           )
       go (Ok r) (Ok r') (Err f) w w' m = m
-      go (Ok r) (Err e) c w w' m = let (x, ex, ix) = step_tight G s a a' b b' r (Err e) i.1 j.1 w w' in let z : ◌≡◌ {A = ℕ} 0 1 = cc in absurd (omega arith)
-      go (Err e) (Ok r') c w w' m = let (x, ex, ix) = step_tight G s a' a b' b r' (Err e) i.0 j.0 w' w in let z : ◌≡◌ {A = ℕ} 0 1 = cc in absurd (omega arith)
+      go (Ok r) (Err e) c w w' m = let (x, ex, ix) = step_tight G s a a' b b' r (Err e) i.1 j.1 w w' in cc
+      go (Err e) (Ok r') c w w' m = let (x, ex, ix) = step_tight G s a' a b' b r' (Err e) i.0 j.0 w' w in cc
       go (Err e) (Err e') (Ok c) w w' m = m
       go (Err e) (Err e') (Err f) w w' m = one e e' w w' ∙ m
         where
@@ -60,8 +60,8 @@ module _ {V : Type 0} (G : Gauge V) (grid : IsGrid G) where
     where
       go : (k : Kind) (o o' : Result Verdict Refusal) → Judges G k a b o → Judges G k a' b' o' → o ≡ o'
       go k (Ok v) (Ok w) h d = ap Ok (agree v w (keeps G k v w a a' b b' i.1 j.1 h d) (keeps G k w v a' a b' b i.0 j.0 d h))
-      go k (Ok v) (Err e) h d = let (w, ew, _) = judge_tight G k v (Err e) a a' b b' i.1 j.1 h d in let z : ◌≡◌ {A = ℕ} 0 1 = cc in absurd (omega arith)
-      go k (Err e) (Ok w) h d = let (v, ev, _) = judge_tight G k w (Err e) a' a b' b i.0 j.0 d h in let z : ◌≡◌ {A = ℕ} 0 1 = cc in absurd (omega arith)
+      go k (Ok v) (Err e) h d = let (w, ew, _) = judge_tight G k v (Err e) a a' b b' i.1 j.1 h d in cc
+      go k (Err e) (Ok w) h d = let (v, ev, _) = judge_tight G k w (Err e) a' a b' b i.0 j.0 d h in cc
       go Plain (Err e) (Err f) h d = absurd h
       go Root (Err BeyondReach) (Err BeyondReach) h d = refl
       go Root (Err BeyondReach) (Err ZeroDivisor) h d = absurd d

@@ -96,8 +96,8 @@ ends_inside s a a' b b' i j n =
 
 zero_num : (n : ℤ) → (elim n as (λ _. Bool) [ pos zero ↦ true | pos (suc k) ↦ false | negsuc k ↦ false ]) ≡ true → n ≡ pos 0
 zero_num (pos zero) e = refl
-zero_num (pos (suc k)) e = absurd (subst (λ b. cond b ⊥ (Unit {0})) e tt)
-zero_num (negsuc k) e = absurd (subst (λ b. cond b ⊥ (Unit {0})) e tt)
+zero_num (pos (suc k)) e = cc
+zero_num (negsuc k) e = cc
 
 zero_held : {b : Interval} {y : Fraction} → is_zeroᶠ y ≡ true → y ∈ᶠ b → zeroᶠ ∈ᶠ b
 zero_held {y = y} e k =

@@ -1,5 +1,5 @@
 -- A verdict that holds over ranges is true, and one that breaks is false, at every choice within them; narrower ranges keep the verdict. Assumes nothing.
-use Rattle.std.proofs.Common.{◌≡◌, ℕ, ◌⊎◌, Ok, Err, Result, refl, inl, inr, arith}
+use Rattle.std.proofs.Common.{◌≡◌, ◌⊎◌, Ok, Err, Result, refl, inl, inr}
 use Rattle.numbers.specs.Fractions.{Fraction, zeroᶠ, ◌≤ᶠ◌, ◌<ᶠ◌, ◌*ᶠ◌}
 use Rattle.numbers.specs.declared.grid.Refusal.{Refusal}
 use Rattle.numbers.specs.declared.grid.Refusal.TheVariants.{BeyondReach, ZeroDivisor}
@@ -104,16 +104,10 @@ module _ {V : Type 0} (G : Gauge V) where
   pub tight_verdict : (k : Kind) (a b : Interval) (o : Result Verdict Refusal) → Judges G k a b o → TightVerdict G k a b o
   tight_verdict k a b o w a⁺ b⁺ v i j w⁺ = judge_tight k v o a⁺ a b⁺ b i j w⁺ w
 
-  not_refused : (v : Verdict) → ◌≡◌ {A = Result Verdict Refusal} (Ok v) (Err BeyondReach) → ⊥
-  not_refused v e = let z : ◌≡◌ {A = ℕ} 0 1 = cc in omega arith
-
   square_refused : (k : Kind) (a b : Interval) (o : Result Verdict Refusal) → Judges G k a b o → SquareRefused G k a o
-  square_refused Plain a b (Ok v) w h = (λ e. absurd (not_refused v e), λ e. absurd (no_root e))
-    where
-      no_root : Plain ≡ Root → ⊥
-      no_root e = let z : ◌≡◌ {A = ℕ} 0 1 = cc in omega arith
+  square_refused Plain a b (Ok v) w h = (λ e. cc, λ e. cc)
   square_refused Plain a b (Err e) w h = absurd w
-  square_refused Root a b (Ok v) w h = (λ e. absurd (not_refused v e), λ _ x. absurd (w.0 (inl x)))
+  square_refused Root a b (Ok v) w h = (λ e. cc, λ _ x. absurd (w.0 (inl x)))
   square_refused Root a b (Err BeyondReach) (inl x) h = (λ _. (refl, x), λ _ _. refl)
   square_refused Root a b (Err BeyondReach) (inr x) h = (λ _. (refl, bursts_more h x), λ _ _. refl)
   square_refused Root a b (Err ZeroDivisor) w h = absurd w

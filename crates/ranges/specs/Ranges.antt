@@ -1,5 +1,5 @@
 -- Ranges of grid values, and what a step on two ranges gives. Assumes nothing.
-use Rattle.std.specs.Prelude.{◌≡◌, Bool, true, false, cond, ◌&&◌, ◌||◌, ◌⊎◌, Some, Ok, Err, Option, Result}
+use Rattle.std.specs.Prelude.{◌≡◌, Bool, false, if◌then◌else◌, ◌&&◌, ◌||◌, ◌⊎◌, Some, Ok, Err, Option, Result}
 use Rattle.numbers.specs.declared.grid.Rounding.{Rounding}
 use Rattle.numbers.specs.declared.grid.Rounding.TheVariants.{Down, Up}
 use Rattle.numbers.specs.declared.grid.Refusal.{Refusal}
@@ -8,7 +8,7 @@ use Rattle.ranges.specs.declared.range.Range.{Range}
 use Rattle.ranges.specs.declared.range.Sign.{Sign}
 use Rattle.ranges.specs.declared.range.Sign.TheVariants.{Plus, Minus, Times, Over, Least, Greatest}
 use Rattle.numbers.specs.Fractions.{Fraction, zeroᶠ, ◌≤ᶠ◌, ◌≈ᶠ◌, leᶠ, minᶠ, maxᶠ, -ᶠ◌, ◌+ᶠ◌, ◌-ᶠ◌, ◌*ᶠ◌, ◌÷ᶠ◌, ◌/ᶠ◌}
-use Rattle.numbers.specs.Grids.{Gauge, rounded, IsDown, IsUp, IsRounded, InReach, Beyond}
+use Rattle.numbers.specs.Grids.{Gauge, rounded, IsDown, IsUp, IsRounded, InReach, Beyond, Answers}
 
 -- ---- ranges
 
@@ -122,7 +122,9 @@ undefined Greatest b = false
 
 -- the result of a step, as a range of fractions
 abbrev pub worked : {V : Type 0} → Gauge V → Sign → Interval → Interval → Result Interval Refusal
-worked G s a b = cond (undefined s b) (Err ZeroDivisor) (cond (in_reach G (ends s a b).low && in_reach G (ends s a b).high) (Ok (outward G (ends s a b))) (Err BeyondReach))
+worked G s a b =
+    if undefined s b then Err ZeroDivisor
+    else if in_reach G (ends s a b).low && in_reach G (ends s a b).high then Ok (outward G (ends s a b)) else Err BeyondReach
 
 -- results that R relates, or the same refusal
 abbrev pub Related : {A B : Type 0} → (A → B → Type 0) → Result A Refusal → Result B Refusal → Type 0
@@ -161,18 +163,21 @@ outer Up p q = maxᶠ p q
 
 -- of two values the one that is farther out that way
 abbrev pub outermost : {V : Type 0} → Gauge V → Rounding → V → V → V
-outermost G Down x y = cond (leᶠ (G.meaning x) (G.meaning y)) x y
-outermost G Up x y = cond (leᶠ (G.meaning x) (G.meaning y)) y x
+outermost G Down x y = if leᶠ (G.meaning x) (G.meaning y) then x else y
+outermost G Up x y = if leᶠ (G.meaning x) (G.meaning y) then y else x
 
 -- the sign that takes the lesser ends, or the greater
 abbrev pub bound : Rounding → Sign
 bound Down = Least
 bound Up = Greatest
 
--- a product or a quotient
-abbrev pub paired : Bool → Fraction → Fraction → Fraction
-paired true p q = p ÷ᶠ q
-paired false p q = p *ᶠ q
+-- P at each end of one range with each of the other
+abbrev pub AtEnds : {V : Type 0} → (V → V → Type 0) → Range V → Range V → Type 0
+AtEnds P a b = P a.low b.low × P a.low b.high × P a.high b.low × P a.high b.high
+
+-- each result of a step at two values answers the exact step
+abbrev pub AnswersStep : {V : Type 0} → Gauge V → (Fraction → Fraction → Fraction) → (V → V → Rounding → Result V Refusal → Type 0) → Rounding → V → V → Type 0
+AnswersStep {V} G exact step to x y = (r : Result V Refusal) → step x y to r → Answers G to (exact (G.meaning x) (G.meaning y)) r
 
 -- one end of a product or quotient: refused where either end is beyond reach
 abbrev pub Corner : {V : Type 0} → Gauge V → Rounding → Interval → Result V Refusal → Type 0

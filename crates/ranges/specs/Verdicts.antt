@@ -1,5 +1,5 @@
 -- Verdicts over two ranges: left at most right, or left at most the root of right. Assumes nothing.
-use Rattle.std.specs.Prelude.{◌≡◌, Bool, true, cond, not, ◌&&◌, ◌||◌, ◌⊎◌, is_ok, Ok, Err, Result}
+use Rattle.std.specs.Prelude.{◌≡◌, ℕ, List, codes, Bool, if◌then◌else◌, not, ◌&&◌, ◌||◌, ◌⊎◌, IsOk, Ok, Err, Result}
 use Rattle.numbers.specs.declared.grid.Rounding.{Rounding}
 use Rattle.numbers.specs.declared.grid.Rounding.TheVariants.{Down, Up}
 use Rattle.numbers.specs.declared.grid.Refusal.{Refusal}
@@ -103,12 +103,12 @@ abbrev pub root_breaks : {V : Type 0} → Gauge V → Interval → Interval → 
 root_breaks G a b = not (leᶠ zeroᶠ b.high) || (above a.low && not (leᶠ (rounded G Down (a.low *ᶠ a.low)) b.high))
 
 abbrev pub decided : Bool → Bool → Verdict
-decided holds breaks = cond holds Holds (cond breaks Breaks Open)
+decided holds breaks = if holds then Holds else if breaks then Breaks else Open
 
 -- the verdict over a left and a right range
 abbrev pub judged : {V : Type 0} → Gauge V → Kind → Interval → Interval → Result Verdict Refusal
 judged G Plain a b = Ok (decided (leᶠ a.high b.low) (not (leᶠ a.low b.high)))
-judged G Root a b = cond (bursts G a.high || bursts G a.low) (Err BeyondReach) (Ok (decided (root_holds G a b) (root_breaks G a b)))
+judged G Root a b = if bursts G a.high || bursts G a.low then Err BeyondReach else Ok (decided (root_holds G a b) (root_breaks G a b))
 
 -- what is promised of a verdict: which it is, the laws, and what computing gives
 pub record VerdictPromise {V : Type 0} (G : Gauge V) (k : Kind) (a b : Interval) (o : Result Verdict Refusal) : Type 0 where
@@ -119,8 +119,14 @@ pub record VerdictPromise {V : Type 0} (G : Gauge V) (k : Kind) (a b : Interval)
   pub tight : TightVerdict G k a b o
   pub computed : o ≡ judged G k a b
 
+-- the word that a verdict is printed by
+abbrev pub word : Verdict → List ℕ
+word Holds = codes "holds"
+word Breaks = codes "breaks"
+word Open = codes "open"
+
 -- ---- what the working's own functions say
 
 -- the square of x, wanted only where x is above zero
 abbrev pub SquareOf : {V : Type 0} → Gauge V → Rounding → Fraction → Result V Refusal → Type 0
-SquareOf G to x o = (zeroᶠ <ᶠ x → Answers G to (x *ᶠ x) o) × ((zeroᶠ <ᶠ x → ⊥) → is_ok o ≡ true)
+SquareOf G to x o = (zeroᶠ <ᶠ x → Answers G to (x *ᶠ x) o) × (¬ (zeroᶠ <ᶠ x) → IsOk o)

@@ -1,8 +1,9 @@
 // A range of fractions, by its two ends on a grid, and the steps of a working on ranges.
-ghost use Rattle.std.specs.Prelude.{◌≡◌, true, Ok, Decides};
-ghost use Rattle.numbers.specs.Fractions.{zeroᶠ, ◌≈ᶠ◌, ◌≤ᶠ◌, ◌-ᶠ◌, thousandths};
+ghost use Rattle.std.specs.Prelude.{◌≡◌, Ok, IsTrue, ◌↔◌};
+ghost use Rattle.numbers.specs.Fractions.{Fraction, zeroᶠ, ◌≈ᶠ◌, ◌≤ᶠ◌, ◌-ᶠ◌, ◌*ᶠ◌, ◌÷ᶠ◌, thousandths};
 ghost use Rattle.numbers.specs.Grids.{Answers};
-ghost use Rattle.ranges.specs.Ranges.{span, outermost, bound, paired, corners, Corner, Covers, HoldsZero, IsStep, StepPromise};
+ghost use Rattle.numbers.specs.Given.{count_of};
+ghost use Rattle.ranges.specs.Ranges.{span, outermost, bound, corners, Corner, AtEnds, AnswersStep, Covers, HoldsZero, IsStep, StepPromise};
 ghost use Rattle.ranges.specs.declared.range.Sign.TheVariants.{Plus, Minus, Times, Over, Least, Greatest};
 
 use numbers::{Form, Grid, Refusal, Rounding, Thousandths};
@@ -15,7 +16,7 @@ pub struct Range<F> {
 }
 
 // The signs of a formula: + - * / min max.
-#[derive(Clone, Copy)]
+#[derive(Clone, Copy, PartialEq, Eq, Debug)]
 pub enum Sign {
     Plus,
     Minus,
@@ -50,24 +51,18 @@ fn extreme<F: Grid>(x: F, y: F, rounding: Rounding) -> F
     }
 }
 
-// Whether x is at most zero and y at least.
-fn around_zero<F: Grid>(x: F, y: F) -> bool
-    ensures { Decides result ((F.Grid.gauge.meaning x ≤ᶠ zeroᶠ) × (zeroᶠ ≤ᶠ F.Grid.gauge.meaning y)) }
+// Whether x is at most zero.
+pub(crate) fn at_most_zero<F: Grid>(x: F) -> bool
+    ensures { IsTrue result ↔ (F.Grid.gauge.meaning x ≤ᶠ zeroᶠ) }
 {
-    let zero = zero::<F>();
-    x.at_most(zero) && zero.at_most(y)
+    x.at_most(zero::<F>())
 }
 
-// x times y, or x over y.
-fn pairing<F: Form>(over: bool, x: F, y: F, rounding: Rounding) -> Result<F, Refusal>
-    requires { over ≡ true → F.Grid.gauge.meaning y ≈ᶠ zeroᶠ → ⊥ }
-    ensures { Answers F.Grid.gauge rounding (paired over (F.Grid.gauge.meaning x) (F.Grid.gauge.meaning y)) result }
+// Whether x is at least zero.
+pub(crate) fn at_least_zero<F: Grid>(x: F) -> bool
+    ensures { IsTrue result ↔ (zeroᶠ ≤ᶠ F.Grid.gauge.meaning x) }
 {
-    if over {
-        x.divide(y, rounding)
-    } else {
-        x.multiply(y, rounding)
-    }
+    zero::<F>().at_most(x)
 }
 
 // The least of four values, or the greatest where rounding is up.
@@ -82,7 +77,7 @@ fn extreme_of_four<F: Grid>(ll: F, lh: F, hl: F, hh: F, rounding: Rounding) -> F
 impl<F: Grid> Range<F> {
     // The range of the fractions from low to high.
     pub fn take(low: Thousandths, high: Thousandths) -> Range<F>
-        ensures { Covers F.Grid.gauge (record { low = thousandths low.count; high = thousandths high.count }) result }
+        ensures { Covers F.Grid.gauge (record { low = thousandths (count_of low); high = thousandths (count_of high) }) result }
     {
         Range {
             low: F::take(low, Rounding::Down),
@@ -92,9 +87,10 @@ impl<F: Grid> Range<F> {
 
     // Whether zero lies between the ends.
     fn holds_zero(self) -> bool
-        ensures { Decides result (HoldsZero (span F.Grid.gauge self)) }
+        ensures { IsTrue result ↔ (HoldsZero (span F.Grid.gauge self)) }
     {
-        around_zero(self.low, self.high) || around_zero(self.high, self.low)
+        (at_most_zero(self.low) && at_least_zero(self.high))
+            || (at_most_zero(self.high) && at_least_zero(self.low))
     }
 
     // The lesser low and the lesser high, or the greater where rounding is up.
@@ -141,25 +137,45 @@ impl<F: Form> Range<F> {
         Ok(Range { low, high })
     }
 
-    // The least of the four pairings of ends, down, or the greatest, up.
-    fn outer_end(self, over: bool, other: Range<F>, rounding: Rounding) -> Result<F, Refusal>
-        requires low { over ≡ true → F.Grid.gauge.meaning other.low ≈ᶠ zeroᶠ → ⊥ }
-        requires high { over ≡ true → F.Grid.gauge.meaning other.high ≈ᶠ zeroᶠ → ⊥ }
-        ensures { Corner F.Grid.gauge rounding (corners (paired over) (span F.Grid.gauge self) (span F.Grid.gauge other)) result }
+    // The least of a step's four results at two ends, down, or the greatest, up.
+    fn outer_end<S: Fn(F, F, Rounding) -> Result<F, Refusal>>(
+        self,
+        step: S,
+        other: Range<F>,
+        rounding: Rounding,
+    ) -> Result<F, Refusal>
+        requires { S.IsAlwaysCallable step }
+        ensures { (exact : Fraction → Fraction → Fraction) → AtEnds (AnswersStep F.Grid.gauge exact (S.post step) rounding) self other → Corner F.Grid.gauge rounding (corners exact (span F.Grid.gauge self) (span F.Grid.gauge other)) result }
     {
-        let ll = pairing(over, self.low, other.low, rounding)?;
-        let lh = pairing(over, self.low, other.high, rounding)?;
-        let hl = pairing(over, self.high, other.low, rounding)?;
-        let hh = pairing(over, self.high, other.high, rounding)?;
+        // One line each: a loop over the four pairs has an invariant that says the same, and is no shorter.
+        let ll = step(self.low, other.low, rounding)?;
+        let lh = step(self.low, other.high, rounding)?;
+        let hl = step(self.high, other.low, rounding)?;
+        let hh = step(self.high, other.high, rounding)?;
         Ok(extreme_of_four(ll, lh, hl, hh, rounding))
+    }
+
+    // The outer one of the four products of ends.
+    fn outer_product(self, other: Range<F>, rounding: Rounding) -> Result<F, Refusal>
+        ensures { Corner F.Grid.gauge rounding (corners ◌*ᶠ◌ (span F.Grid.gauge self) (span F.Grid.gauge other)) result }
+    {
+        self.outer_end(F::multiply, other, rounding)
+    }
+
+    // The outer one of the four quotients of ends.
+    fn outer_quotient(self, other: Range<F>, rounding: Rounding) -> Result<F, Refusal>
+        requires { ¬ (HoldsZero (span F.Grid.gauge other)) }
+        ensures { Corner F.Grid.gauge rounding (corners ◌÷ᶠ◌ (span F.Grid.gauge self) (span F.Grid.gauge other)) result }
+    {
+        self.outer_end(F::divide, other, rounding)
     }
 
     // The least of the four products of ends, down; the greatest, up.
     pub fn product(self, other: Range<F>) -> Result<Range<F>, Refusal>
         ensures { IsStep F.Grid.gauge Times (span F.Grid.gauge self) (span F.Grid.gauge other) result }
     {
-        let low = self.outer_end(false, other, Rounding::Down)?;
-        let high = self.outer_end(false, other, Rounding::Up)?;
+        let low = self.outer_product(other, Rounding::Down)?;
+        let high = self.outer_product(other, Rounding::Up)?;
         Ok(Range { low, high })
     }
 
@@ -170,12 +186,12 @@ impl<F: Form> Range<F> {
         if other.holds_zero() {
             return Err(Refusal::ZeroDivisor);
         }
-        let low = self.outer_end(true, other, Rounding::Down)?;
-        let high = self.outer_end(true, other, Rounding::Up)?;
+        let low = self.outer_quotient(other, Rounding::Down)?;
+        let high = self.outer_quotient(other, Rounding::Up)?;
         Ok(Range { low, high })
     }
 
-    // The step that a sign asks for.
+    // What `step` does: the proof is written out here, so that a wrong line there is refused as a fact that does not hold.
     fn stepped(self, sign: Sign, other: Range<F>) -> Result<Range<F>, Refusal>
         ensures { StepPromise F.Grid.gauge sign (span F.Grid.gauge self) (span F.Grid.gauge other) result }
     {

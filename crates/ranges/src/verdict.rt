@@ -1,15 +1,16 @@
 // Verdicts over a left and a right range.
-ghost use Rattle.std.specs.Prelude.{Ok, Decides};
+ghost use Rattle.std.specs.Prelude.{Ok, Some, IsTrue, ◌↔◌};
 ghost use Rattle.numbers.specs.Fractions.{zeroᶠ, ◌<ᶠ◌};
 ghost use Rattle.ranges.specs.Ranges.{span};
-ghost use Rattle.ranges.specs.Verdicts.{SquareOf, RootHolds, RootBreaks, Judges, VerdictPromise};
+ghost use Rattle.ranges.specs.Verdicts.{SquareOf, RootHolds, RootBreaks, Judges, VerdictPromise, word};
 ghost use Rattle.ranges.specs.declared.verdict.Kind.TheVariants.{Plain, Root};
 
-use crate::range::{Range, zero};
+use crate::range::{Range, at_least_zero, at_most_zero, zero};
 use numbers::{Form, Grid, Refusal, Rounding};
+use std::fmt;
 
 // Left at most right, or left at most the root of right.
-#[derive(Clone, Copy)]
+#[derive(Clone, Copy, PartialEq, Eq, Debug)]
 pub enum Kind {
     Plain,
     Root,
@@ -23,11 +24,23 @@ pub enum Verdict {
     Open = 3,
 }
 
+impl fmt::Display for Verdict {
+    ghost output = { λ verdict. Some (word verdict) };
+
+    fn fmt<W: fmt::Write>(&self, f: &mut fmt::Formatter<W>) -> fmt::Result {
+        match self {
+            Verdict::Holds => f.write_str("holds"),
+            Verdict::Breaks => f.write_str("breaks"),
+            Verdict::Open => f.write_str("open"),
+        }
+    }
+}
+
 // Whether x is above zero.
 fn above_zero<F: Grid>(x: F) -> bool
-    ensures { Decides result (zeroᶠ <ᶠ F.Grid.gauge.meaning x) }
+    ensures { IsTrue result ↔ (zeroᶠ <ᶠ F.Grid.gauge.meaning x) }
 {
-    !x.at_most(zero::<F>())
+    !at_most_zero(x)
 }
 
 // x squared, wanted only where x is above zero: else it is never refused.
@@ -43,18 +56,16 @@ fn square<F: Form>(x: F, rounding: Rounding) -> Result<F, Refusal>
 
 // Whether the root rule holds; `up` is the square of left's high, where that is above zero.
 fn root_holds<F: Grid>(left: Range<F>, right: Range<F>, up: F) -> bool
-    ensures { Decides result (RootHolds F.Grid.gauge (span F.Grid.gauge left) (span F.Grid.gauge right) up) }
+    ensures { IsTrue result ↔ (RootHolds F.Grid.gauge (span F.Grid.gauge left) (span F.Grid.gauge right) up) }
 {
-    let zero = zero::<F>();
-    zero.at_most(right.low) && (left.high.at_most(zero) || up.at_most(right.low))
+    at_least_zero(right.low) && (at_most_zero(left.high) || up.at_most(right.low))
 }
 
 // Whether the root rule breaks; `down` is the square of left's low, where that is above zero.
 fn root_breaks<F: Grid>(left: Range<F>, right: Range<F>, down: F) -> bool
-    ensures { Decides result (RootBreaks F.Grid.gauge (span F.Grid.gauge left) (span F.Grid.gauge right) down) }
+    ensures { IsTrue result ↔ (RootBreaks F.Grid.gauge (span F.Grid.gauge left) (span F.Grid.gauge right) down) }
 {
-    let zero = zero::<F>();
-    !zero.at_most(right.high) || (!left.low.at_most(zero) && !down.at_most(right.high))
+    !at_least_zero(right.high) || (above_zero(left.low) && !down.at_most(right.high))
 }
 
 fn judge_plain<F: Grid>(left: Range<F>, right: Range<F>) -> Verdict
@@ -83,6 +94,7 @@ fn judge_root<F: Form>(left: Range<F>, right: Range<F>) -> Result<Verdict, Refus
     Ok(Verdict::Open)
 }
 
+// What `judge` does: the proof is written out here, so that a wrong line there is refused as a fact that does not hold.
 fn judged<F: Form>(kind: Kind, left: Range<F>, right: Range<F>) -> Result<Verdict, Refusal>
     ensures { VerdictPromise F.Grid.gauge kind (span F.Grid.gauge left) (span F.Grid.gauge right) result }
 {

@@ -1,32 +1,63 @@
 // The working of the form "sig", in counts of millionths.
-ghost use Rattle.std.specs.Prelude.{◌≡◌, ◌*◌, ◌^◌, ◌<◌, ◌≤◌, pos, ◌*ℤ◌, unsigned_abs, refl};
-ghost use Rattle.numbers.specs.Fractions.{◌≈ᶠ◌, over, millionths};
-ghost use Rattle.numbers.specs.Grids.{IsRounded, Answers, Compares, Takes, Shows, Adds, Multiplies, Divides};
+ghost use Rattle.std.specs.Prelude.{◌≡◌, ◌^◌, pos, ◌*ℤ◌, refl};
+ghost use Rattle.numbers.specs.Fractions.{◌≈ᶠ◌, millionths};
 ghost use Rattle.numbers.specs.Forms.{sig};
-ghost use Rattle.numbers.specs.Sigs.{grid};
+ghost use Rattle.numbers.specs.Scales.{sig_scale};
+ghost use Rattle.numbers.specs.Sigs.{count, count_bound, sig_top, sig_fits, grid};
 
-use crate::grid::{Form, Grid, Refusal, Rounding, Thousandths};
+use crate::counted::Counted;
+use crate::grid::Rounding;
 use crate::sig::Sig;
-use crate::whole::{quotient, signed_by, wide_quotient};
+use crate::whole::Ratio;
 
-impl Sig {
-    // The value in millionths.
-    fn count(self) -> i64
-        ensures value { result ≡ self.mantissa *ℤ pos (10 ^ self.exponent) }
-        ensures bound { unsigned_abs result ≤ 999999000000000000 }
-    {
-        self.mantissa as i64 * 10u64.pow(self.exponent as u32) as i64
+impl Counted for Sig {
+    type Wide = i128;
+
+    ghost gauge = { sig };
+
+    ghost scale = { sig_scale };
+
+    ghost counts = { count };
+
+    ghost means = { λ v. refl };
+
+    ghost within = { count_bound };
+
+    ghost top = { sig_top };
+
+    ghost fits = { sig_fits };
+
+    ghost grid = { grid };
+
+    fn per_one() -> u32 {
+        1_000_000
     }
 
-    // A count of millionths within reach, rounded as told.
-    fn nearest(count: i64, rounding: Rounding) -> Sig
-        requires { unsigned_abs count ≤ 999999000000000000 }
-        ensures { IsRounded sig.meaning rounding (millionths count) result }
-    {
+    fn most() -> i64 {
+        999_999_000_000_000_000
+    }
+
+    fn thousandths() -> (u32, u32) {
+        (1000, 1)
+    }
+
+    fn count(self) -> i64 {
+        self.counted()
+    }
+
+    fn turned(self) -> Sig {
+        Sig {
+            mantissa: -self.mantissa,
+            exponent: self.exponent,
+        }
+    }
+
+    fn nearest(count: i64, rounding: Rounding) -> Sig {
         let mut mantissa = count;
         let mut exponent = 0;
+        // `unsigned_abs` is slower here, and with `contains` the proof did not close.
         while mantissa < -999_999 || 999_999 < mantissa {
-            mantissa = quotient(mantissa, 10, rounding);
+            mantissa = Ratio { n: mantissa, d: 10 }.rounded(rounding);
             exponent += 1;
         }
         Sig {
@@ -34,60 +65,13 @@ impl Sig {
             exponent,
         }
     }
+}
 
-    // n / d millionths, rounded as told.
-    fn rounded(n: i128, d: u64, rounding: Rounding) -> Result<Sig, Refusal>
-        requires { 0 < d }
-        ensures { (h : 0 < 1000000 * d) → Answers sig rounding (over (1000000 * d) h n) result }
+impl Sig {
+    fn counted(self) -> i64
+        ensures { result ≡ self.mantissa *ℤ pos (10 ^ self.exponent) }
     {
-        let reach = 999_999_000_000_000_000 * d as i128;
-        if n < -reach || reach < n {
-            return Err(Refusal::BeyondReach);
-        }
-        Ok(Sig::nearest(wide_quotient(n, d, rounding) as i64, rounding))
-    }
-
-    fn ordered(self, other: Sig) -> bool
-        ensures { Compares sig self other result }
-    {
-        self.count() <= other.count()
-    }
-
-    fn taken(given: Thousandths, rounding: Rounding) -> Sig
-        ensures { Takes sig rounding given.count result }
-    {
-        Sig::nearest(given.count() as i64 * 1000, rounding)
-    }
-
-    fn shown(self, rounding: Rounding) -> i64
-        ensures { Shows sig rounding self result }
-    {
-        quotient(self.count(), 1000, rounding)
-    }
-
-    fn sum(self, other: Sig, rounding: Rounding) -> Result<Sig, Refusal>
-        ensures { Adds sig rounding self other result }
-    {
-        let sum = self.count() + other.count();
-        Sig::rounded(sum as i128, 1, rounding)
-    }
-
-    fn product(self, other: Sig, rounding: Rounding) -> Result<Sig, Refusal>
-        ensures { Multiplies sig rounding self other result }
-    {
-        let product = self.count() as i128 * other.count() as i128;
-        Sig::rounded(product, 1_000_000, rounding)
-    }
-
-    fn ratio(self, other: Sig, rounding: Rounding) -> Result<Sig, Refusal>
-        ensures { Divides sig rounding self other result }
-    {
-        let divisor = other.count();
-        if divisor == 0 {
-            return Err(Refusal::ZeroDivisor);
-        }
-        let n = signed_by(self.count(), divisor) as i128 * 1_000_000;
-        Sig::rounded(n, divisor.unsigned_abs(), rounding)
+        i64::from(self.mantissa) * 10i64.pow(u32::from(self.exponent))
     }
 
     // The value in millionths, exactly.
@@ -95,44 +79,5 @@ impl Sig {
         ensures { sig.meaning self ≈ᶠ millionths result }
     {
         Sig::count(self)
-    }
-}
-
-impl Grid for Sig {
-    ghost gauge = { sig };
-
-    ghost grid = { grid };
-
-    fn at_most(self, other: Sig) -> bool {
-        self.ordered(other)
-    }
-
-    fn negated(self) -> Sig {
-        Sig {
-            mantissa: -self.mantissa,
-            exponent: self.exponent,
-        }
-    }
-
-    fn take(given: Thousandths, rounding: Rounding) -> Sig {
-        Sig::taken(given, rounding)
-    }
-
-    fn show(self, rounding: Rounding) -> i64 {
-        self.shown(rounding)
-    }
-}
-
-impl Form for Sig {
-    fn add(self, other: Sig, rounding: Rounding) -> Result<Sig, Refusal> {
-        self.sum(other, rounding)
-    }
-
-    fn multiply(self, other: Sig, rounding: Rounding) -> Result<Sig, Refusal> {
-        self.product(other, rounding)
-    }
-
-    fn divide(self, other: Sig, rounding: Rounding) -> Result<Sig, Refusal> {
-        self.ratio(other, rounding)
     }
 }

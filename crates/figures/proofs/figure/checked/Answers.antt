@@ -6,5 +6,4 @@ pub returns : goal.returns
 returns g c =
     let G = g.F.Grid.gauge in
     sides_judged G g.met.F.Grid.grid c.args.kind c.in_ok-left.left c.in_ok-right.right
-    (comes G (chained c.args.left.first c.args.left.links.now)) (comes G (chained c.args.right.first c.args.right.links.now)) c.judge.result
-    c.in_ok-left.ensures c.in_ok-right.ensures c.judge.ensures.answer
+    (comes G (chained c.args.left)) (comes G (chained c.args.right)) _ c.in_ok-left.ensures c.in_ok-right.ensures c.judge.ensures.answer

@@ -3,6 +3,4 @@ use Rattle.numbers.specs.Roundings.{answers_same}
 use Rattle.ranges.proofs.range.minus.Goals as goal
 
 pub returns : goal.returns
-returns g c =
-    let x = g.F.Grid.gauge.meaning c.args.x in
-    answers_same g.F.Grid.gauge c.args.rounding c.add.result (plus_same (≤ᶠ_refl x, ≤ᶠ_refl x) c.negated.ensures) c.add.ensures
+returns g c = answers_same g.F.Grid.gauge _ _ (plus_same (≤ᶠ_refl _, ≤ᶠ_refl _) c.negated.ensures) c.add.ensures

@@ -1,5 +1,5 @@
 use Rattle.std.proofs.Common.{pos, arith}
-use borrow.Author.Differences.{ints}
+use Rattle.std.proofs.lemmas.Int.{ints}
 use Rattle.numbers.specs.Fractions.{zeroᶠ, thousandths, ◌≤ᶠ◌}
 use Rattle.numbers.specs.Orders.{≤ᶠ_trans}
 use Rattle.ranges.proofs.range.zero.Goals as goal
