@@ -1,7 +1,3 @@
-pub mod Exponents
-pub mod Steps
-pub mod Rows
-pub mod Lookups
 pub mod Trees
 pub mod UnitRows
 pub mod Refusals
@@ -9,6 +5,5 @@ pub mod Postfix
 pub mod Standing
 pub mod Reach
 pub mod Growth
-pub mod Stated
-pub mod Places
+pub mod Tested
 pub mod Whole

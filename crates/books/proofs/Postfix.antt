@@ -1,5 +1,5 @@
 -- The steps of a formula read as that formula, and no other row does.
-use Rattle.std.proofs.Common.{◌≡◌, ℕ, List, [], ◌∷◌, ◌++◌, length, take, Some, sym, refl, ap, ◌∙◌, append_assoc, append-nil, arith, take_at, drop_at}
+use Rattle.std.proofs.Common.{◌≡◌, List, [], ◌∷◌, ◌++◌, length, take, Some, sym, refl, ap, ◌∙◌, append_assoc, append-nil, take_at, drop_at}
 use Rattle.lines.specs.declared.reader.Op.{Op}
 use Rattle.books.specs.declared.step.Step.{Step}
 use Rattle.books.specs.declared.step.Step.TheVariants as step
@@ -25,14 +25,14 @@ waiting (f ∷ fs) row = waiting fs (steps f ++ row)
 
 built_waiting : (row : List Step) (fs : List Formula) (f : Formula) → built row fs ≡ Some f → waiting fs row ≡ steps f
 unfolding waiting
-built_waiting [] [] f e = absurd (let z : ◌≡◌ {A = ℕ} 0 1 = cc e in omega arith)
+built_waiting [] [] f e = cc
 built_waiting [] (g ∷ []) f e = let q : g ≡ f = cc e in append-nil (steps g) ∙ ap steps q
-built_waiting [] (g ∷ (h ∷ fs)) f e = absurd (let z : ◌≡◌ {A = ℕ} 0 1 = cc e in omega arith)
+built_waiting [] (g ∷ (h ∷ fs)) f e = cc
 built_waiting (step.Number c u ∷ row) fs f e = built_waiting row (Formula.number c u ∷ fs) f e
 built_waiting (step.Entry i ∷ row) fs f e = built_waiting row (Formula.name (entry i) ∷ fs) f e
 built_waiting (step.Line k ∷ row) fs f e = built_waiting row (Formula.name (line k) ∷ fs) f e
-built_waiting (step.Op o ∷ row) [] f e = absurd (let z : ◌≡◌ {A = ℕ} 0 1 = cc e in omega arith)
-built_waiting (step.Op o ∷ row) (g ∷ []) f e = absurd (let z : ◌≡◌ {A = ℕ} 0 1 = cc e in omega arith)
+built_waiting (step.Op o ∷ row) [] f e = cc
+built_waiting (step.Op o ∷ row) (g ∷ []) f e = cc
 built_waiting (step.Op o ∷ row) (g ∷ (h ∷ fs)) f e = ap (waiting fs) (sym (join_steps o h g row)) ∙ built_waiting row (Formula.join o h g ∷ fs) f e
 
 pub steps_formula : (row : List Step) (f : Formula) → formula row ≡ Some f → row ≡ steps f

@@ -1,8 +1,11 @@
 -- What a row of steps finds is what its formula reaches, and that is what the formula needs.
-use Rattle.std.proofs.Common.{◌≡◌, ℕ, zero, suc, ◌<◌, ◌≤◌, Bool, true, false, ◌&&◌, ◌||◌, eqb, ltb, ◌⊎◌, List, [], ◌∷◌, ◌++◌, length, Some, None, Decides, Option, sym, refl, ap, ◌∙◌, subst, inl, inr, ⊎_elim, arith}
-use Rattle.std.proofs.lemmas.Bool.{and_parts, or_cases, or_left, or_right, ltb-true, lt-ltb, eqb-true, eqb-false, eq-eqb, ne_eqb, false≢true}
-use Rattle.std.proofs.lemmas.Bool.Decides.{Decides-or}
-use Rattle.std.specs.Option.{option_map, option_flatten}
+use Rattle.std.proofs.Common.{◌≡◌, ℕ, zero, suc, ◌<◌, ◌≤◌, Bool, true, ◌&&◌, ◌||◌, eqb, ltb, ◌⊎◌, List, [], ◌∷◌, ◌++◌, length, Some, None, Decides, Option, sym, refl, ap, ◌∙◌, subst, inl, inr, ⊎_elim, arith}
+use Rattle.std.proofs.Math.Bool.{or-false}
+use Rattle.std.proofs.lemmas.List.Folds.{list_any-append}
+use Rattle.std.proofs.lemmas.Bool.{and_parts, or_cases, or_left, or_right, ltb-true, eqb-true, eq-eqb}
+use Rattle.std.proofs.lemmas.Bool.Decides.{nat_tests, Decides-or}
+use Rattle.std.proofs.lemmas.Option.{slice_get_within, slice_get_cases}
+use Rattle.std.specs.Option.{option_and_then}
 use Rattle.std.specs.List.{slice_get}
 use Rattle.books.specs.declared.step.Entry.{Entry}
 use Rattle.books.specs.declared.step.Line.{Line}
@@ -11,59 +14,40 @@ use Rattle.books.specs.declared.step.Step.TheVariants as step
 use Rattle.books.specs.Formulas.{Named, entry, line, Formula, steps, formula}
 use Rattle.books.specs.Needs.{Names, Needed, named, through, same, line_has, reaches, any_name, step_entry, step_line, row_entry, row_line}
 use Rattle.books.specs.Books.{part, formulas, within, LinesStand, line_reaches, LineWords}
-use Rattle.books.proofs.Standing.{nth_inside, within_more, reaches_by, line_parts}
+use Rattle.books.proofs.Standing.{within_more, reaches_by, line_parts}
 
 -- ---- rows
 
-or_nil : (a : Bool) → (a || false) ≡ a
-or_nil true = refl
-or_nil false = refl
-
-or_assoc : (a b c : Bool) → ((a || b) || c) ≡ (a || (b || c))
-or_assoc true b c = refl
-or_assoc false b c = refl
-
 -- a number below 64 is the one looked for
 here : (e i j : ℕ) → e ≤ 64 → ltb j e ≡ true → (ltb j 64 && eqb i j) ≡ eqb j i
-here e i j h w = let l = ltb-true j e w in ap (λ t. t && eqb i j) (lt-ltb j 64 (omega arith)) ∙ flip (eqb j i) refl
-  where
-    flip : (t : Bool) → eqb j i ≡ t → eqb i j ≡ eqb j i
-    flip true q = eq-eqb i j (sym (eqb-true j i q)) ∙ sym q
-    flip false q = ne_eqb i j (λ r. eqb-false j i q (sym r)) ∙ sym q
-
-module _ (ls : List Line) where
-  pub entry_append : (xs ys : List Step) (i : ℕ) → row_entry ls (xs ++ ys) i ≡ (row_entry ls xs i || row_entry ls ys i)
-  entry_append [] ys i = refl
-  entry_append (x ∷ xs) ys i = ap (λ t. step_entry ls x i || t) (entry_append xs ys i) ∙ sym (or_assoc (step_entry ls x i) (row_entry ls xs i) (row_entry ls ys i))
-
-  pub line_append : (xs ys : List Step) (i : ℕ) → row_line ls (xs ++ ys) i ≡ (row_line ls xs i || row_line ls ys i)
-  line_append [] ys i = refl
-  line_append (x ∷ xs) ys i = ap (λ t. step_line ls x i || t) (line_append xs ys i) ∙ sym (or_assoc (step_line ls x i) (row_line ls xs i) (row_line ls ys i))
+here e i j h w = let l = ltb-true j e w in grind (arith, nat_tests)
 
 pub row_entries : (e k : ℕ) (ls : List Line) (f : Formula) (i : ℕ) → e ≤ 64 → k ≤ 64 → within e k f ≡ true → row_entry ls (steps f) i ≡ any_name (reaches ls (entry i)) f
 row_entries e k ls (Formula.number c u) i h j w = refl
-row_entries e k ls (Formula.name (entry n)) i h j w = or_nil (ltb n 64 && eqb i n) ∙ here e i n h w
-row_entries e k ls (Formula.name (line n)) i h j w = or_nil (line_has (slice_get ls n) (entry i))
+row_entries e k ls (Formula.name (entry n)) i h j w = or-false (ltb n 64 && eqb i n) ∙ here e i n h w
+row_entries e k ls (Formula.name (line n)) i h j w = or-false (line_has (slice_get ls n) (entry i))
 row_entries e k ls (Formula.join o f g) i h j w =
     let (p, q) = and_parts (within e k f) (within e k g) w in
     let x = row_entries e k ls f i h j p in
     let y = row_entries e k ls g i h j q in
-    entry_append ls (steps f) (steps g ++ (step.Op o ∷ [])) i ∙ ap (λ t. row_entry ls (steps f) i || t) (entry_append ls (steps g) (step.Op o ∷ []) i ∙ or_nil (row_entry ls (steps g) i)) ∙ (λ i. x i || y i)
+    let append = list_any-append (λ s. step_entry ls s i) in
+    append (steps f) (steps g ++ (step.Op o ∷ [])) ∙ ap (λ t. row_entry ls (steps f) i || t) (append (steps g) (step.Op o ∷ []) ∙ or-false (row_entry ls (steps g) i)) ∙ (λ j. x j || y j)
 
 pub row_lines : (e k : ℕ) (ls : List Line) (f : Formula) (i : ℕ) → e ≤ 64 → k ≤ 64 → within e k f ≡ true → row_line ls (steps f) i ≡ any_name (reaches ls (line i)) f
 row_lines e k ls (Formula.number c u) i h j w = refl
 row_lines e k ls (Formula.name (entry n)) i h j w = refl
-row_lines e k ls (Formula.name (line n)) i h j w = or_nil ((ltb n 64 && eqb i n) || line_has (slice_get ls n) (line i)) ∙ ap (λ t. t || line_has (slice_get ls n) (line i)) (here k i n j w)
+row_lines e k ls (Formula.name (line n)) i h j w = or-false ((ltb n 64 && eqb i n) || line_has (slice_get ls n) (line i)) ∙ ap (λ t. t || line_has (slice_get ls n) (line i)) (here k i n j w)
 row_lines e k ls (Formula.join o f g) i h j w =
     let (p, q) = and_parts (within e k f) (within e k g) w in
     let x = row_lines e k ls f i h j p in
     let y = row_lines e k ls g i h j q in
-    line_append ls (steps f) (steps g ++ (step.Op o ∷ [])) i ∙ ap (λ t. row_line ls (steps f) i || t) (line_append ls (steps g) (step.Op o ∷ []) i ∙ or_nil (row_line ls (steps g) i)) ∙ (λ i. x i || y i)
+    let append = list_any-append (λ s. step_line ls s i) in
+    append (steps f) (steps g ++ (step.Op o ∷ [])) ∙ ap (λ t. row_line ls (steps f) i || t) (append (steps g) (step.Op o ∷ []) ∙ or-false (row_line ls (steps g) i)) ∙ (λ j. x j || y j)
 
 -- ---- the names of a formula
 
 any_found : (p : Named → Bool) (f : Formula) → any_name p f ≡ true → (x : Named) × Names f x × (p x ≡ true)
-any_found p (Formula.number c u) e = absurd (false≢true e)
+any_found p (Formula.number c u) e = cc
 any_found p (Formula.name x) e = (x, refl, e)
 any_found p (Formula.join o f g) e = ⊎_elim (λ h. let (x, m, q) = any_found p f h in (x, inl m, q)) (λ h. let (x, m, q) = any_found p g h in (x, inr m, q)) (or_cases (any_name p f) (any_name p g) e)
 
@@ -75,8 +59,8 @@ any_of p (Formula.join o f g) x (inr m) e = or_right (any_name p f) (any_name p 
 
 same_is : (x y : Named) → same x y ≡ true → x ≡ y
 same_is (entry i) (entry j) e = ap entry (eqb-true i j e)
-same_is (entry i) (line j) e = absurd (false≢true e)
-same_is (line i) (entry j) e = absurd (false≢true e)
+same_is (entry i) (line j) e = cc
+same_is (line i) (entry j) e = cc
 same_is (line i) (line j) e = ap line (eqb-true i j e)
 
 name_within : (e k : ℕ) (f : Formula) (x : Named) → within e k f ≡ true → Names f x → within e k (Formula.name x) ≡ true
@@ -84,11 +68,6 @@ name_within e k (Formula.number c u) x w m = absurd m
 name_within e k (Formula.name y) x w m = subst (λ z. within e k (Formula.name z) ≡ true) m w
 name_within e k (Formula.join o f g) x w (inl m) = name_within e k f x (and_parts (within e k f) (within e k g) w).0 m
 name_within e k (Formula.join o f g) x w (inr m) = name_within e k g x (and_parts (within e k f) (within e k g) w).1 m
-
-nth_there : {X : Type 0} (xs : List X) (k : ℕ) → k < length xs → (x : X) × (slice_get xs k ≡ Some x)
-nth_there [] k h = absurd (omega arith)
-nth_there (x ∷ xs) zero h = (x, refl)
-nth_there (x ∷ xs) (suc k) h = nth_there xs k (omega arith)
 
 -- ---- what a formula needs
 
@@ -100,17 +79,17 @@ module _ (es : List Entry) (ls : List Line) (row : List Step) (stand : LinesStan
   line_here : (k : ℕ) (l : Line) → slice_get ls k ≡ Some l → (g : Formula) × About k g
   line_here k l e =
       let (g, w, u) = line_parts es ls row k l (stand k l e) in
-      let is : formulas row ls k ≡ Some g = ap (λ o. option_flatten (option_map (λ (l : Line). formula (part row l.steps)) o)) e ∙ w.2 in
-      (g, (nth_inside ls k l e, is, w.3, λ x. words k x ∙ ap (λ o. line_reaches ls row o x) e ∙ reaches_by ls row l.steps g x w.2))
+      let is : formulas row ls k ≡ Some g = ap (λ o. option_and_then (λ (l : Line). formula (part row l.steps)) o) e ∙ w.2 in
+      (g, (slice_get_within ls k l e, is, w.3, λ x. words k x ∙ ap (λ o. line_reaches ls row o x) e ∙ reaches_by ls row l.steps g x w.2))
 
   line_at : (k : ℕ) → k < length ls → (g : Formula) × About k g
-  line_at k h = let (l, e) = nth_there ls k h in line_here k l e
+  line_at k h = ⊎_elim (λ (l, i, e, q). line_here k l e) (λ (past, e). absurd (omega arith)) (slice_get_cases ls k).1
 
   line_of : (k : ℕ) (g : Formula) → formulas row ls k ≡ Some g → About k g
   line_of k g e = go (slice_get ls k) refl
     where
       go : (o : Option Line) → slice_get ls k ≡ o → About k g
-      go None n = absurd (let z : ◌≡◌ {A = ℕ} 0 1 = cc (sym e ∙ ap (λ o. option_flatten (option_map (λ (l : Line). formula (part row l.steps)) o)) n) in omega arith)
+      go None n = cc
       go (Some l) n =
           let (f, a) = line_here k l n in
           let q : f ≡ g = cc (sym a.1 ∙ e) in
@@ -137,7 +116,7 @@ module _ (es : List Entry) (ls : List Line) (row : List Step) (stand : LinesStan
   module _ (k : ℕ) (g : Formula) (about : About k g) (x : Named) (m : Names g x) where
     -- what reaches a line reaches the names of its formula
     reach_through : (n : ℕ) (z : Named) → n ≤ length ls → within (length es) n (Formula.name z) ≡ true → reaches ls (line k) z ≡ true → reaches ls x z ≡ true
-    reach_through n (entry i) h b e = absurd (false≢true e)
+    reach_through n (entry i) h b e = cc
     reach_through zero (line i) h b e = let l = ltb-true i 0 b in absurd (omega arith)
     reach_through (suc n) (line i) h b e =
         let l = ltb-true i (suc n) b in

@@ -1,24 +1,26 @@
 -- What stands in a book still stands when something is put at the end of its lists.
-use Rattle.std.proofs.Common.{◌≡◌, ℕ, zero, suc, ◌+◌, ◌<◌, ◌≤◌, Bool, true, false, cond, ◌&&◌, ◌||◌, leb, List, [], ◌∷◌, ◌++◌, length, take, drop, ℤ, pos, negsuc, Some, None, Ok, Option, sym, refl, ap, ◌∙◌, subst, ⊎_elim, append_assoc, append-nil, arith, length-append, length-drop}
-use lib.Seq.{take-append-le, drop-append-le}
-use Rattle.std.proofs.lemmas.Option.{slice_get_past}
-use Rattle.std.proofs.lemmas.Bool.{and_parts, and_from, ltb-true, lt-ltb, leb-true, le-leb, cases_lt, cases_eq, false≢true}
-use Rattle.std.specs.Option.{option_map, option_or, unwrap_or}
-use Rattle.std.specs.List.{slice_get}
+use Rattle.std.proofs.Common.{◌≡◌, ℕ, zero, suc, ◌+◌, ◌<◌, ◌≤◌, Bool, true, false, ◌&&◌, ◌||◌, leb, List, [], ◌∷◌, ◌++◌, length, take, drop, ℤ, pos, Some, None, Ok, Option, sym, refl, ap, ◌∙◌, subst, ⊎_elim, append_assoc, append-nil, arith, length-append, length-drop}
+use Rattle.std.proofs.lemmas.List.{take-append-le, drop-append-le}
+use Rattle.std.proofs.lemmas.Option.{cond_some, slice_get_past, slice_get_within}
+use Rattle.std.proofs.lemmas.Bool.{and_parts, and_from, ltb-true, lt-ltb, leb-true, le-leb, cases_lt, cases_eq}
+use Rattle.std.proofs.lemmas.Bool.Decides.{Decides-int_eq}
+use Rattle.std.specs.Option.{option_map, option_map_or, option_or}
+use Rattle.std.specs.Ordering.{int_eq}
+use Rattle.std.specs.Bool.{then_some}
+use Rattle.std.specs.List.{list_any, position, slice_get}
 use Rattle.std.specs.Str.{bytes_eq}
 use Rattle.lines.specs.declared.reader.Op.{Op}
 use Rattle.lines.specs.Grammar.{Tree, Counts}
-use Rattle.books.specs.declared.name.Name.{Name}
 use Rattle.books.specs.declared.step.Declared.TheVariants as declared
 use Rattle.books.specs.declared.step.Entry.{Entry}
 use Rattle.books.specs.declared.step.Line.{Line}
 use Rattle.books.specs.declared.step.Rule.{Rule}
 use Rattle.books.specs.declared.step.Span.{Span}
 use Rattle.books.specs.declared.step.Step.{Step}
-use Rattle.books.specs.Names.{text_of, place_of, found}
+use Rattle.books.specs.Names.{found}
 use Rattle.books.specs.Formulas.{Named, entry, line, Formula, steps, formula, operand, join_both, formula_of}
 use Rattle.books.specs.Needs.{in_words, line_has, same, reaches, any_name}
-use Rattle.books.specs.Units.{after, join_units, formula_unit, eq_z, same_unit, sides_agree}
+use Rattle.books.specs.Units.{after, join_units, formula_unit, same_unit, sides_agree}
 use Rattle.books.specs.Books.{part, units, within, is_unit, passes, formed, line_stands, agree, rule_stands, part_reaches, LinesStand, line_reaches, LineWords, RulesStand, rule_has, rule_reaches, RuleWords}
 use Rattle.books.proofs.Postfix.{formula_steps, part_new}
 
@@ -33,11 +35,6 @@ module _ {X : Type 0} where
   pub nth_new : (xs : List X) (x : X) → slice_get (xs ++ x ∷ []) (length xs) ≡ Some x
   nth_new [] x = refl
   nth_new (y ∷ xs) x = nth_new xs x
-
-  pub nth_inside : (xs : List X) (k : ℕ) (x : X) → slice_get xs k ≡ Some x → k < length xs
-  nth_inside [] k x e = absurd (let z : ◌≡◌ {A = ℕ} 0 1 = cc e in omega arith)
-  nth_inside (y ∷ xs) zero x e = omega arith
-  nth_inside (y ∷ xs) (suc k) x e = let h = nth_inside xs k x e in omega arith
 
   -- a place of a list with one more is one of the list, or the last, or none
   pub nth_push : (xs : List X) (x : X) (P : ℕ → Option X → Type 0) → ((k : ℕ) → k < length xs → P k (slice_get (xs ++ x ∷ []) k)) → P (length xs) (Some x) → ((k : ℕ) → P k None) → (k : ℕ) → P k (slice_get (xs ++ x ∷ []) k)
@@ -64,8 +61,8 @@ within_more e e' k k' (Formula.join o f g) h j w =
 module _ (es a : List Entry) (ls b : List Line) where
   pub unit_more : (f : Formula) (k : ℕ) → k ≤ length ls → within (length es) k f ≡ true → formula_unit (units (es ++ a) (ls ++ b)) f ≡ formula_unit (units es ls) f
   unit_more (Formula.number c u) k h w = refl
-  unit_more (Formula.name (entry i)) k h w = ap (λ o. Ok (unwrap_or (option_map (λ (e : Entry). e.unit) o) (pos 0, pos 0))) (nth_more es a i (ltb-true i (length es) w))
-  unit_more (Formula.name (line i)) k h w = let l = ltb-true i k w in ap (λ o. Ok (unwrap_or (option_map (λ (e : Line). e.unit) o) (pos 0, pos 0))) (nth_more ls b i (omega arith))
+  unit_more (Formula.name (entry i)) k h w = ap (λ o. Ok (option_map_or (λ (e : Entry). e.unit) o (pos 0, pos 0))) (nth_more es a i (ltb-true i (length es) w))
+  unit_more (Formula.name (line i)) k h w = let l = ltb-true i k w in ap (λ o. Ok (option_map_or (λ (l : Line). l.unit) o (pos 0, pos 0))) (nth_more ls b i (omega arith))
   unit_more (Formula.join o f g) k h w =
       let (p, q) = and_parts (within (length es) k f) (within (length es) k g) w in
       let x = unit_more f k h p in
@@ -86,7 +83,7 @@ any_more e ls b (Formula.join o f g) k x h w =
 -- ---- a part that is the steps of a formula
 
 passes_parts : (o : Option Formula) (test : Formula → Bool) → passes o test ≡ true → (f : Formula) × (o ≡ Some f) × (test f ≡ true)
-passes_parts None test e = absurd (false≢true e)
+passes_parts None test e = cc
 passes_parts (Some f) test e = (f, refl, e)
 
 -- what a part reaches goes by its formula
@@ -128,12 +125,8 @@ formed_new es whole row more rest k p f e q s h w =
 
 -- ---- units
 
-same_exponent : (x : ℤ) → eq_z x x ≡ true
-same_exponent (pos n) = let e = le-leb n n (omega arith) in and_from (leb n n) (leb n n) e e
-same_exponent (negsuc n) = let e = le-leb n n (omega arith) in and_from (leb n n) (leb n n) e e
-
 pub same_unit_lem : (u : ℤ × ℤ) → same_unit u u ≡ true
-same_unit_lem u = and_from (eq_z u.0 u.0) (eq_z u.1 u.1) (same_exponent u.0) (same_exponent u.1)
+same_unit_lem u = and_from (int_eq u.0 u.0) (int_eq u.1 u.1) ((Decides-int_eq u.0 u.0).1 refl) ((Decides-int_eq u.1 u.1).1 refl)
 
 -- ---- lines
 
@@ -149,7 +142,7 @@ module _ (es : List Entry) (ls : List Line) (row : List Step) (k : ℕ) (l : Lin
 
 pub lines_more : (es a : List Entry) (ls b : List Line) (row c : List Step) → LinesStand es ls row → (k : ℕ) (l : Line) → slice_get ls k ≡ Some l → line_stands (es ++ a) (ls ++ b) (row ++ c) k l ≡ true
 lines_more es a ls b row c stand k l at =
-    let in_List = nth_inside ls k l at in
+    let in_List = slice_get_within ls k l at in
     let (f, w, u) = line_parts es ls row k l (stand k l at) in
     line_from (es ++ a) (ls ++ b) (row ++ c) k l f (formed_more es row k l.steps a c k f (omega arith) w) (ap (λ z. is_unit z l.unit) (unit_more es a ls b f k (omega arith) w.3) ∙ u)
 
@@ -176,7 +169,7 @@ module _ (es : List Entry) (ls : List Line) (row more : List Step) (l : Line) (f
 
   pub lines_push : LinesStand es ls row → more ≡ steps f → length more ≤ 120 → within (length es) (length ls) f ≡ true → l.steps ≡ record { start = length row; len = length more } → formula_unit (units es ls) f ≡ Ok l.unit → LinesStand es (ls ++ l ∷ []) (row ++ more)
   lines_push stand s h w e u =
-      nth_push ls l (λ k o. (m : Line) → o ≡ Some m → line_stands es (ls ++ l ∷ []) (row ++ more) k m ≡ true) (λ k i m q. subst (λ z. line_stands z (ls ++ l ∷ []) (row ++ more) k m ≡ true) (append-nil es) (lines_more es [] ls (l ∷ []) row more stand k m (sym (nth_more ls (l ∷ []) k i) ∙ q))) (λ m q. let at : l ≡ m = cc q in subst (λ m. line_stands es (ls ++ l ∷ []) (row ++ more) (length ls) m ≡ true) at last) (λ k m q. absurd (let z : ◌≡◌ {A = ℕ} 0 1 = cc q in omega arith))
+      nth_push ls l (λ k o. (m : Line) → o ≡ Some m → line_stands es (ls ++ l ∷ []) (row ++ more) k m ≡ true) (λ k i m q. subst (λ z. line_stands z (ls ++ l ∷ []) (row ++ more) k m ≡ true) (append-nil es) (lines_more es [] ls (l ∷ []) row more stand k m (sym (nth_more ls (l ∷ []) k i) ∙ q))) (λ m q. let at : l ≡ m = cc q in subst (λ m. line_stands es (ls ++ l ∷ []) (row ++ more) (length ls) m ≡ true) at last) (λ k m q. absurd (cc))
     where
       last : line_stands es (ls ++ l ∷ []) (row ++ more) (length ls) l ≡ true
       last = line_from es (ls ++ l ∷ []) (row ++ more) (length ls) l f (new_line s h w e) (ap (λ z. is_unit z l.unit) (unit_lines es ls (l ∷ []) f (length ls) (omega arith) w ∙ u) ∙ same_unit_lem l.unit)
@@ -244,7 +237,7 @@ module _ (es : List Entry) (ls : List Line) (rs : List Rule) (row left right : L
 
   pub rules_push : (b : ℤ × ℤ) → RulesStand es ls rs row → left ≡ steps f → right ≡ steps g → length left ≤ 120 → length right ≤ 120 → within (length es) (length ls) f ≡ true → within (length es) (length ls) g ≡ true → r.left ≡ record { start = length row; len = length left } → r.right ≡ record { start = length row + length left; len = length right } → formula_unit (units es ls) f ≡ Ok r.unit → formula_unit (units es ls) g ≡ Ok b → sides_agree r.root r.unit b ≡ true → RulesStand es ls (rs ++ r ∷ []) (row ++ (left ++ right))
   rules_push b stand s t h j v w p q x y z =
-      nth_push rs r (λ k o. (m : Rule) → o ≡ Some m → rule_stands es ls (row ++ (left ++ right)) m ≡ true) (λ k i m e. sym (λ i. rule_stands (append-nil es i) (append-nil ls i) (row ++ (left ++ right)) m) ∙ rule_more es [] ls [] row (left ++ right) m (stand k m (sym (nth_more rs (r ∷ []) k i) ∙ e))) (λ m e. let at : r ≡ m = cc e in subst (λ m. rule_stands es ls (row ++ (left ++ right)) m ≡ true) at last) (λ k m e. absurd (let z : ◌≡◌ {A = ℕ} 0 1 = cc e in omega arith))
+      nth_push rs r (λ k o. (m : Rule) → o ≡ Some m → rule_stands es ls (row ++ (left ++ right)) m ≡ true) (λ k i m e. sym (λ i. rule_stands (append-nil es i) (append-nil ls i) (row ++ (left ++ right)) m) ∙ rule_more es [] ls [] row (left ++ right) m (stand k m (sym (nth_more rs (r ∷ []) k i) ∙ e))) (λ m e. let at : r ≡ m = cc e in subst (λ m. rule_stands es ls (row ++ (left ++ right)) m ≡ true) at last) (λ k m e. absurd (cc))
     where
       last : rule_stands es ls (row ++ (left ++ right)) r ≡ true
       last = rule_from es ls (row ++ (left ++ right)) r f g (formed_new es (row ++ (left ++ right)) row left right (length ls) r.left f refl p s h v, formed_new es (row ++ (left ++ right)) (row ++ left) right [] (length ls) r.right g behind (place q) t j w, ap (λ a. is_unit a r.unit) x ∙ same_unit_lem r.unit, (λ i. agree r.root (x i) (y i)) ∙ z)
@@ -264,25 +257,21 @@ module _ (es : List Entry) (ls : List Line) (rs : List Rule) (row left right : L
 
 -- ---- names
 
-place_inside : {X : Type 0} (name : X → Name) (xs : List X) (w : List ℕ) (i : ℕ) → place_of name xs w ≡ Some i → i < length xs
-place_inside name [] w i e = absurd (let z : ◌≡◌ {A = ℕ} 0 1 = cc e in omega arith)
-place_inside name (x ∷ xs) w i e = go (bytes_eq (text_of (name x)) w) (place_of name xs w) (place_inside name xs w) e
-  where
-    go : (b : Bool) (o : Option ℕ) → ((j : ℕ) → o ≡ Some j → j < length xs) → cond b (Some 0) (option_map (λ n. 1 + n) o) ≡ Some i → i < length (x ∷ xs)
-    go true o h q = let z : ◌≡◌ {A = ℕ} 0 i = cc q in omega arith
-    go false None h q = absurd (let z : ◌≡◌ {A = ℕ} 0 1 = cc q in omega arith)
-    go false (Some j) h q = let z : ◌≡◌ {A = ℕ} (1 + j) i = cc q in let l = h j refl in omega arith
+position_inside : {X : Type 0} (p : X → Bool) (xs : List X) (i : ℕ) → position p xs ≡ Some i → i < length xs
+position_inside p xs i e =
+    let h = cond_some _ _ _ e in
+    subst (λ n. n < length xs) h.1 (ltb-true _ _ h.0)
 
 module _ (e k : ℕ) where
-  found_inside : (x y z : Option ℕ) (f : Formula) → ((i : ℕ) → x ≡ Some i → i < e) → ((i : ℕ) → y ≡ Some i → i < k) → operand (option_or (option_map (λ n. declared.Entry n) x) (option_or (option_map (λ n. declared.Line n) y) (option_map (λ n. declared.Rule) z))) ≡ Some f → within e k f ≡ true
+  found_inside : (x y : Option ℕ) (z : Bool) (f : Formula) → ((i : ℕ) → x ≡ Some i → i < e) → ((i : ℕ) → y ≡ Some i → i < k) → operand (option_or (option_map (λ n. declared.Entry n) x) (option_or (option_map (λ n. declared.Line n) y) (then_some z declared.Rule))) ≡ Some f → within e k f ≡ true
   found_inside (Some i) y z f a b q = let at : Formula.name (entry i) ≡ f = cc q in subst (λ f. within e k f ≡ true) at (lt-ltb i e (a i refl))
   found_inside None (Some i) z f a b q = let at : Formula.name (line i) ≡ f = cc q in subst (λ f. within e k f ≡ true) at (lt-ltb i k (b i refl))
-  found_inside None None (Some i) f a b q = absurd (let z : ◌≡◌ {A = ℕ} 0 1 = cc q in omega arith)
-  found_inside None None None f a b q = absurd (let z : ◌≡◌ {A = ℕ} 0 1 = cc q in omega arith)
+  found_inside None None true f a b q = cc
+  found_inside None None false f a b q = cc
 
   both_within : (o : Op) (x y : Option Formula) (f : Formula) → ((g : Formula) → x ≡ Some g → within e k g ≡ true) → ((g : Formula) → y ≡ Some g → within e k g ≡ true) → join_both o x y ≡ Some f → within e k f ≡ true
-  both_within o None y f a b q = absurd (let z : ◌≡◌ {A = ℕ} 0 1 = cc q in omega arith)
-  both_within o (Some g) None f a b q = absurd (let z : ◌≡◌ {A = ℕ} 0 1 = cc q in omega arith)
+  both_within o None y f a b q = cc
+  both_within o (Some g) None f a b q = cc
   both_within o (Some g) (Some h) f a b q =
       let at : Formula.join o g h ≡ f = cc q in
       subst (λ f. within e k f ≡ true) at (and_from (within e k g) (within e k h) (a g refl) (b h refl))
@@ -290,5 +279,8 @@ module _ (e k : ℕ) where
 -- the formula of a tree
 pub within_of : (es : List Entry) (ls : List Line) (rs : List Rule) (t : Tree) (f : Formula) → Counts t → formula_of (found es ls rs) t ≡ Some f → within (length es) (length ls) f ≡ true
 within_of es ls rs (Tree.number n u) f c q = let at : Formula.number n u ≡ f = cc q in subst (λ f. within (length es) (length ls) f ≡ true) at (lt-ltb n 1000000000 c)
-within_of es ls rs (Tree.name w) f c q = found_inside (length es) (length ls) (place_of (λ (e : Entry). e.name) es w) (place_of (λ (l : Line). l.name) ls w) (place_of (λ (r : Rule). r.name) rs w) f (place_inside (λ (e : Entry). e.name) es w) (place_inside (λ (l : Line). l.name) ls w) q
+within_of es ls rs (Tree.name w) f c q =
+    let is_entry = λ (e : Entry). bytes_eq e.name w in
+    let is_line = λ (l : Line). bytes_eq l.name w in
+    found_inside (length es) (length ls) (position is_entry es) (position is_line ls) (list_any (λ (r : Rule). bytes_eq r.name w) rs) f (position_inside is_entry es) (position_inside is_line ls) q
 within_of es ls rs (Tree.join o t u) f c q = both_within (length es) (length ls) o (formula_of (found es ls rs) t) (formula_of (found es ls rs) u) f (λ g h. within_of es ls rs t g c.0 h) (λ g h. within_of es ls rs u g c.1 h) q

@@ -1,5 +1,5 @@
 -- The row of a formula, run over a stack of units, gives the formula's unit.
-use Rattle.std.proofs.Common.{◌≡◌, ℕ, List, [], ◌∷◌, ◌++◌, ℤ, Ok, Err, Result, sym, refl, ap, ◌∙◌, subst, inl, inr, append_assoc, arith}
+use Rattle.std.proofs.Common.{◌≡◌, List, [], ◌∷◌, ◌++◌, ℤ, Ok, Err, Result, sym, refl, ap, ◌∙◌, subst, inl, inr, append_assoc}
 use Rattle.std.proofs.lemmas.List.{same_from_push, append-nil}
 use Rattle.lines.specs.declared.reader.Op.{Op}
 use Rattle.books.specs.declared.refusal.Refusal.{Refusal}
@@ -16,8 +16,8 @@ pub data Runs (unit : Named → ℤ × ℤ) : List Step → List (ℤ × ℤ) �
 
 pops_push : (xs : List (ℤ × ℤ)) (x a : ℤ × ℤ) (rest : List (ℤ × ℤ)) → Pops (xs ++ x ∷ []) a rest → (xs ≡ rest) × (x ≡ a)
 pops_push xs x a rest (inl e) = same_from_push xs rest x a e
-pops_push [] x a rest (inr e) = absurd (let z : ◌≡◌ {A = ℕ} 0 1 = cc e.0 in omega arith)
-pops_push (y ∷ ys) x a rest (inr e) = absurd (let z : ◌≡◌ {A = ℕ} 0 1 = cc e.0 in omega arith)
+pops_push [] x a rest (inr e) = absurd (cc e.0)
+pops_push (y ∷ ys) x a rest (inr e) = absurd (cc e.0)
 
 ended : {unit : Named → ℤ × ℤ} {st : List (ℤ × ℤ)} {r : Result (List (ℤ × ℤ)) Refusal} → Runs unit [] st r → r ≡ Ok st
 ended Runs.done = refl
@@ -33,7 +33,7 @@ module _ (unit : Named → ℤ × ℤ) where
       let p = is left (Ok u) x in
       let q : u ≡ v = cc p.1 in
       subst (λ l. Runs unit rest l r) (λ i. p.0 i ++ q i ∷ []) more
-  operand s v rest st r is (Runs.stops left {e = e} x) = absurd (let z : ◌≡◌ {A = ℕ} 0 1 = cc (is left (Err e) x).1 in omega arith)
+  operand s v rest st r is (Runs.stops left {e = e} x) = absurd (cc (is left (Err e) x).1)
 
   module _ (o : Op) (rest : List Step) (st : List (ℤ × ℤ)) where
     -- the operands that a sign takes are those that were pushed
@@ -69,7 +69,7 @@ module _ (unit : Named → ℤ × ℤ) where
     row_refused e x = go (formula_unit unit f) (alone (Err e) x)
       where
         go : (z : Result (ℤ × ℤ) Refusal) → Then z [] [] (Err e) → Err e ≡ z
-        go (Ok u) h = absurd (let z : ◌≡◌ {A = ℕ} 0 1 = cc (ended h) in omega arith)
+        go (Ok u) h = absurd (cc (ended h))
         go (Err y) h = let q : e ≡ y = cc h in ap Err q
 
     pub row_unit : (st rest : List (ℤ × ℤ)) (u : ℤ × ℤ) → Runs unit row [] (Ok st) → Pops st u rest → Ok u ≡ formula_unit unit f
@@ -79,4 +79,4 @@ module _ (unit : Named → ℤ × ℤ) where
         go (Ok v) h =
             let s : st ≡ v ∷ [] = cc (ended h) in
             ap Ok (sym (pops_push [] v u rest (subst (λ l. Pops l u rest) s p)).1)
-        go (Err y) h = absurd (let z : ◌≡◌ {A = ℕ} 0 1 = cc h in omega arith)
+        go (Err y) h = cc

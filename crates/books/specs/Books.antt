@@ -1,6 +1,6 @@
 -- What holds of every book, over its lists.
-use Rattle.std.specs.Prelude.{◌≡◌, ℕ, ◌+◌, Bool, true, false, ◌&&◌, ◌||◌, List, length, take, drop, ℤ, pos, Some, None, Ok, Err, Option, Result, nat_le, nat_lt}
-use Rattle.std.specs.Option.{option_map, option_flatten, unwrap_or}
+use Rattle.std.specs.Prelude.{◌≡◌, ℕ, ◌+◌, Bool, true, false, ◌&&◌, ◌||◌, List, length, take, drop, ℤ, pos, Some, None, Ok, Err, Option, Result, nat_le, nat_lt, ◌≤◌}
+use Rattle.std.specs.Option.{option_and_then, option_map_or}
 use Rattle.std.specs.List.{slice_get}
 use Rattle.books.specs.declared.refusal.Refusal.{Refusal}
 use Rattle.books.specs.declared.step.Entry.{Entry}
@@ -12,18 +12,25 @@ use Rattle.books.specs.Formulas.{Named, entry, line, Formula, formula}
 use Rattle.books.specs.Needs.{in_words, line_has, reaches, any_name}
 use Rattle.books.specs.Units.{formula_unit, same_unit, sides_agree}
 
+-- what a book holds: its entries, lines and rules, and the steps of all formulas
+pub record Lists : Type 0 where
+  pub entries : List Entry
+  pub lines : List Line
+  pub rules : List Rule
+  pub steps : List Step
+
 -- the steps of a part
 abbrev pub part : List Step → Span → List Step
 part row p = take p.len (drop p.start row)
 
 -- the unit of each name
 abbrev pub units : List Entry → List Line → Named → ℤ × ℤ
-units es ls (entry i) = unwrap_or (option_map (λ (e : Entry). e.unit) (slice_get es i)) (pos 0, pos 0)
-units es ls (line k) = unwrap_or (option_map (λ (l : Line). l.unit) (slice_get ls k)) (pos 0, pos 0)
+units es ls (entry i) = option_map_or (λ (e : Entry). e.unit) (slice_get es i) (pos 0, pos 0)
+units es ls (line k) = option_map_or (λ (l : Line). l.unit) (slice_get ls k) (pos 0, pos 0)
 
 -- the formula of each line
 abbrev pub formulas : List Step → List Line → ℕ → Option Formula
-formulas row ls k = option_flatten (option_map (λ (l : Line). formula (part row l.steps)) (slice_get ls k))
+formulas row ls k = option_and_then (λ (l : Line). formula (part row l.steps)) (slice_get ls k)
 
 -- names stand for entries below e and lines below k, and numbers are below a million
 abbrev pub within : ℕ → ℕ → Formula → Bool
@@ -97,3 +104,12 @@ rule_reaches ls row (Some r) x = part_reaches ls row r.left x || part_reaches ls
 -- a rule's words are that
 abbrev pub RuleWords : List Line → List Rule → List Step → Type 0
 RuleWords ls rs row = (k : ℕ) (x : Named) → rule_has (slice_get rs k) x ≡ rule_reaches ls row (slice_get rs k) x
+
+-- all that, and that the numbers of entries and lines are below 64, as sets of 64 numbers hold them
+pub record Stands (d : Lists) : Type 0 where
+  pub few_entries : length d.entries ≤ 64
+  pub few_lines : length d.lines ≤ 64
+  pub lines_stand : LinesStand d.entries d.lines d.steps
+  pub line_words : LineWords d.lines d.steps
+  pub rules_stand : RulesStand d.entries d.lines d.rules d.steps
+  pub rule_words : RuleWords d.lines d.rules d.steps

@@ -1,6 +1,6 @@
 -- What adding a line does to a book: the refusal by the table's order, or what stands at the end of the lists.
-use Rattle.std.specs.Prelude.{◌≡◌, ℕ, ◌+◌, Bool, true, cond, ◌&&◌, ◌⊎◌, List, [], ◌∷◌, ◌++◌, length, ℤ, is_some, Some, None, Ok, Err, vec_items, Decides, Option, Result, nat_le, nat_lt}
-use Rattle.std.specs.Option.{option_or}
+use Rattle.std.specs.Prelude.{◌≡◌, ℕ, ◌+◌, ◌≤◌, Bool, true, cond, ◌&&◌, ◌⊎◌, List, [], ◌∷◌, ◌++◌, length, ℤ, Some, None, Ok, Err, Decides, Option, Result, nat_le, nat_lt}
+use Rattle.std.specs.Option.{option_map, option_map_or, option_or}
 use Rattle.std.specs.Result.{result_err}
 use Rattle.std.specs.List.{slice_get}
 use Rattle.lines.specs.declared.refusal.Refusal.{Refusal as Unread}
@@ -9,36 +9,23 @@ use Rattle.lines.specs.Grammar.{Tree, Stated, Line as IsLine}
 use Rattle.lines.specs.Tokens.{parts}
 use Rattle.lines.specs.Faults.{Refused, Shallow}
 use Rattle.lines.specs.Reading.{plain}
-use Rattle.books.specs.declared.book.Book.{Book}
 use Rattle.books.specs.declared.name.Name.{Name}
 use Rattle.books.specs.declared.refusal.Refusal.{Refusal}
 use Rattle.books.specs.declared.refusal.Refusal.TheVariants as refusal
 use Rattle.books.specs.declared.step.Declared.{Declared}
-use Rattle.books.specs.declared.step.Entry.{Entry}
 use Rattle.books.specs.declared.step.Line.{Line}
 use Rattle.books.specs.declared.step.Rule.{Rule}
 use Rattle.books.specs.declared.step.Needs.{Needs}
 use Rattle.books.specs.declared.step.Step.{Step}
-use Rattle.books.specs.Names.{text_of, found}
+use Rattle.books.specs.Names.{found}
 use Rattle.books.specs.Formulas.{Named, Formula, steps, formula_of}
 use Rattle.books.specs.Needs.{Needed, in_words}
 use Rattle.books.specs.Units.{formula_unit, sides_agree}
-use Rattle.books.specs.Books.{part, units, formulas, within}
-
--- what a book holds: its entries, lines and rules, and the steps of all formulas
-pub record Lists : Type 0 where
-  pub entries : List Entry
-  pub lines : List Line
-  pub rules : List Rule
-  pub row : List Step
-
--- the lists of a book
-abbrev pub lists_of : Book → Lists
-lists_of b = record { entries = vec_items b.entries; lines = vec_items b.lines; rules = vec_items b.rules; row = vec_items b.steps }
+use Rattle.books.specs.Books.{Lists, part, units, formulas, within}
 
 -- an empty book
 abbrev pub nothing : Lists
-nothing = record { entries = []; lines = []; rules = []; row = [] }
+nothing = record { entries = []; lines = []; rules = []; steps = [] }
 
 -- what a name stands for in a book
 abbrev pub look_in : Lists → List ℕ → Option Declared
@@ -50,11 +37,11 @@ unit_in d f = formula_unit (units d.entries d.lines) f
 
 -- 6: the name is in use
 abbrev pub taken : Lists → List ℕ → Option Refusal
-taken d n = cond (is_some (look_in d n)) (Some refusal.Taken) None
+taken d n = option_map (λ _. refusal.Taken) (look_in d n)
 
 -- 5: a name is unknown; or what comes then
 abbrev pub knowing : Lists → Tree → (Formula → Option Refusal) → Option Refusal
-knowing d t k = elim (formula_of (look_in d) t) [ None ↦ Some refusal.Unknown | Some f ↦ k f ]
+knowing d t k = option_map_or k (formula_of (look_in d) t) (Some refusal.Unknown)
 
 -- 7 and 8, of the first step
 abbrev pub unfit : Lists → Formula → Option Refusal
@@ -68,7 +55,7 @@ apart root (Err e) b = None
 
 -- one more of a kind, after `count`, and so many steps more fit
 abbrev pub fits : Lists → ℕ → ℕ → Bool
-fits d count more = nat_lt count 64 && nat_le (length d.row + more) 1024
+fits d count more = nat_lt count 64 && nat_le (length d.steps + more) 1024
 
 -- 9: a 65th of a kind, or a 1,025th step
 abbrev pub full : Lists → ℕ → ℕ → Option Refusal
@@ -115,40 +102,40 @@ Words n P = (x : Named) → Decides (in_words n x) (P x)
 
 -- the formula needs x, through the lines of the book
 abbrev pub NeededIn : Lists → Formula → Named → Type 0
-NeededIn d f x = Needed (formulas d.row d.lines) f x
+NeededIn d f x = Needed (formulas d.steps d.lines) f x
 
 -- the lists with an entry, a line or a rule at the end
 abbrev pub with_entry : Lists → Name → ℤ × ℤ → Lists
 with_entry d name u =
-    record { entries = d.entries ++ record { name = name; unit = u } ∷ []; lines = d.lines; rules = d.rules; row = d.row }
+    record { entries = d.entries ++ record { name = name; unit = u } ∷ []; lines = d.lines; rules = d.rules; steps = d.steps }
 
 abbrev pub with_line : Lists → Name → ℤ × ℤ → Needs → List Step → Lists
 with_line d name u needs row =
-    record { entries = d.entries; lines = d.lines ++ record { name = name; unit = u; steps = record { start = length d.row; len = length row }; needs = needs } ∷ []; rules = d.rules; row = d.row ++ row }
+    record { entries = d.entries; lines = d.lines ++ record { name = name; unit = u; steps = record { start = length d.steps; len = length row }; needs = needs } ∷ []; rules = d.rules; steps = d.steps ++ row }
 
 abbrev pub with_rule : Lists → Name → Bool → ℤ × ℤ → Needs → List Step → List Step → Lists
 with_rule d name root u needs left right =
-    record { entries = d.entries; lines = d.lines; rules = d.rules ++ record { name = name; root = root; unit = u; left = record { start = length d.row; len = length left }; right = record { start = length d.row + length left; len = length right }; needs = needs } ∷ []; row = d.row ++ (left ++ right) }
+    record { entries = d.entries; lines = d.lines; rules = d.rules ++ record { name = name; root = root; unit = u; left = record { start = length d.steps; len = length left }; right = record { start = length d.steps + length left; len = length right }; needs = needs } ∷ []; steps = d.steps ++ (left ++ right) }
 
 -- two rows are the sides of a rule over the book: formulas within it, whose units agree
-pub record RuleSides (b : Book) (root : Bool) (unit : ℤ × ℤ) (left right : List Step) : Type 0 where
+pub record RuleSides (d : Lists) (root : Bool) (unit : ℤ × ℤ) (left right : List Step) : Type 0 where
   pub f : Formula
   pub g : Formula
   pub is_left : left ≡ steps f
   pub is_right : right ≡ steps g
-  pub left_within : within (length (vec_items b.entries)) (length (vec_items b.lines)) f ≡ true
-  pub right_within : within (length (vec_items b.entries)) (length (vec_items b.lines)) g ≡ true
-  pub left_unit : unit_in (lists_of b) f ≡ Ok unit
+  pub left_within : within (length d.entries) (length d.lines) f ≡ true
+  pub right_within : within (length d.entries) (length d.lines) g ≡ true
+  pub left_unit : unit_in d f ≡ Ok unit
   pub other : ℤ × ℤ
-  pub right_unit : unit_in (lists_of b) g ≡ Ok other
+  pub right_unit : unit_in d g ≡ Ok other
   pub agrees : sides_agree root unit other ≡ true
 
 -- `Grows d s d'`: d' is d with what s states at the end, and nothing else
 pub data Grows (d : Lists) : Stated → Lists → Type 0 where
   blank : Grows d Stated.blank d
-  entry : (name : Name) {u : ℤ × ℤ} → Grows d (Stated.entry (text_of name) u) (with_entry d name u)
-  line : (name : Name) (needs : Needs) {t : Tree} {f : Formula} {u : ℤ × ℤ} → formula_of (look_in d) t ≡ Some f → unit_in d f ≡ Ok u → Words needs (NeededIn d f) → Grows d (Stated.line (text_of name) t) (with_line d name u needs (steps f))
-  rule : (name : Name) (needs : Needs) {root : Bool} {t u : Tree} {f g : Formula} {a : ℤ × ℤ} → formula_of (look_in d) t ≡ Some f → formula_of (look_in d) u ≡ Some g → unit_in d f ≡ Ok a → Words needs (λ x. NeededIn d f x ⊎ NeededIn d g x) → Grows d (Stated.rule (text_of name) root t u) (with_rule d name root a needs (steps f) (steps g))
+  entry : (name : Name) {u : ℤ × ℤ} → length name ≤ 16 → Grows d (Stated.entry name u) (with_entry d name u)
+  line : (name : Name) (needs : Needs) {t : Tree} {f : Formula} {u : ℤ × ℤ} → length name ≤ 16 → formula_of (look_in d) t ≡ Some f → unit_in d f ≡ Ok u → Words needs (NeededIn d f) → Grows d (Stated.line name t) (with_line d name u needs (steps f))
+  rule : (name : Name) (needs : Needs) {root : Bool} {t u : Tree} {f g : Formula} {a : ℤ × ℤ} → length name ≤ 16 → formula_of (look_in d) t ≡ Some f → formula_of (look_in d) u ≡ Some g → unit_in d f ≡ Ok a → Words needs (λ x. NeededIn d f x ⊎ NeededIn d g x) → Grows d (Stated.rule name root t u) (with_rule d name root a needs (steps f) (steps g))
 
 -- the refusals of the reader are refusals of a book
 abbrev pub of_reader : Unread → Refusal
@@ -179,7 +166,7 @@ Adds d text r d' = ((s : Stated) × Reads text s × Settles d s r d') ⊎ ((u : 
 -- the line k: the steps of a formula over entries and earlier lines, with its unit and what it needs
 pub record LineHolds (d : Lists) (k : ℕ) (l : Line) : Type 0 where
   pub f : Formula
-  pub is_steps : part d.row l.steps ≡ steps f
+  pub is_steps : part d.steps l.steps ≡ steps f
   pub inside : within (length d.entries) k f ≡ true
   pub has_unit : unit_in d f ≡ Ok l.unit
   pub words : Words l.needs (NeededIn d f)
@@ -188,8 +175,8 @@ pub record LineHolds (d : Lists) (k : ℕ) (l : Line) : Type 0 where
 pub record RuleHolds (d : Lists) (r : Rule) : Type 0 where
   pub f : Formula
   pub g : Formula
-  pub is_left : part d.row r.left ≡ steps f
-  pub is_right : part d.row r.right ≡ steps g
+  pub is_left : part d.steps r.left ≡ steps f
+  pub is_right : part d.steps r.right ≡ steps g
   pub left_inside : within (length d.entries) (length d.lines) f ≡ true
   pub right_inside : within (length d.entries) (length d.lines) g ≡ true
   pub left_unit : unit_in d f ≡ Ok r.unit
@@ -198,14 +185,20 @@ pub record RuleHolds (d : Lists) (r : Rule) : Type 0 where
   pub agrees : sides_agree r.root r.unit other ≡ true
   pub words : Words r.needs (λ x. NeededIn d f x ⊎ NeededIn d g x)
 
--- every line and every rule
+-- every line holds, and every rule
+abbrev pub LinesHold : Lists → Type 0
+LinesHold d = (k : ℕ) (l : Line) → slice_get d.lines k ≡ Some l → LineHolds d k l
+
+abbrev pub RulesHold : Lists → Type 0
+RulesHold d = (k : ℕ) (r : Rule) → slice_get d.rules k ≡ Some r → RuleHolds d r
+
 abbrev pub Whole : Lists → Type 0
-Whole d = ((k : ℕ) (l : Line) → slice_get d.lines k ≡ Some l → LineHolds d k l) × ((k : ℕ) (r : Rule) → slice_get d.rules k ≡ Some r → RuleHolds d r)
+Whole d = LinesHold d × RulesHold d
 
 -- the line k depends on x: the formula of its steps needs x
 abbrev pub LineDepends : Lists → ℕ → Named → Type 0
-LineDepends d k x = (l : Line) × (slice_get d.lines k ≡ Some l) × (f : Formula) × (part d.row l.steps ≡ steps f) × NeededIn d f x
+LineDepends d k x = (l : Line) × (slice_get d.lines k ≡ Some l) × (f : Formula) × (part d.steps l.steps ≡ steps f) × NeededIn d f x
 
 -- the same of the rule k, with either side
 abbrev pub RuleDepends : Lists → ℕ → Named → Type 0
-RuleDepends d k x = (r : Rule) × (slice_get d.rules k ≡ Some r) × (f : Formula) × ((part d.row r.left ≡ steps f) ⊎ (part d.row r.right ≡ steps f)) × NeededIn d f x
+RuleDepends d k x = (r : Rule) × (slice_get d.rules k ≡ Some r) × (f : Formula) × ((part d.steps r.left ≡ steps f) ⊎ (part d.steps r.right ≡ steps f)) × NeededIn d f x

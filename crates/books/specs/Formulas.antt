@@ -1,6 +1,6 @@
 -- Formulas over a book, their steps, and the formula that a tree of names and numbers is.
 use Rattle.std.specs.Prelude.{ℕ, List, [], ◌∷◌, ◌++◌, ℤ, Some, None, Option}
-use Rattle.std.specs.Option.{option_map}
+use Rattle.std.specs.Option.{option_and_then, option_map}
 use Rattle.lines.specs.declared.reader.Op.{Op}
 use Rattle.lines.specs.Grammar.{Tree}
 use Rattle.books.specs.declared.step.Declared.{Declared}
@@ -52,8 +52,7 @@ operand (Some (declared.Line k)) = Some (Formula.name (line k))
 operand (Some declared.Rule) = None
 
 abbrev pub join_both : Op → Option Formula → Option Formula → Option Formula
-join_both o None y = None
-join_both o (Some f) y = option_map (λ g. Formula.join o f g) y
+join_both o x y = option_and_then (λ f. option_map (λ g. Formula.join o f g) y) x
 
 -- the formula of a tree, if all its names are known
 abbrev pub formula_of : (List ℕ → Option Declared) → Tree → Option Formula

@@ -1,6 +1,6 @@
 -- What a formula needs: the entries and lines that it names, and all that those lines need.
-use Rattle.std.specs.Prelude.{◌≡◌, ℕ, Bool, false, ◌&&◌, ◌||◌, ◌⊎◌, List, [], ◌∷◌, Some, None, Option, ◌==◌, nat_lt}
-use Rattle.std.specs.List.{slice_get}
+use Rattle.std.specs.Prelude.{◌≡◌, ℕ, Bool, false, ◌&&◌, ◌||◌, ◌⊎◌, List, Some, None, Option, ◌==◌, nat_lt}
+use Rattle.std.specs.List.{list_any, slice_get}
 use Rattle.sets.specs.Members.{has}
 use Rattle.books.specs.declared.step.Line.{Line}
 use Rattle.books.specs.declared.step.Needs.{Needs}
@@ -61,9 +61,7 @@ step_line ls (step.Op o) k = false
 
 -- a row of steps needs entry e, or line k
 abbrev pub row_entry : List Line → List Step → ℕ → Bool
-row_entry ls [] e = false
-row_entry ls (s ∷ ss) e = step_entry ls s e || row_entry ls ss e
+row_entry ls row e = list_any (λ s. step_entry ls s e) row
 
 abbrev pub row_line : List Line → List Step → ℕ → Bool
-row_line ls [] k = false
-row_line ls (s ∷ ss) k = step_line ls s k || row_line ls ss k
+row_line ls row k = list_any (λ s. step_line ls s k) row

@@ -1,5 +1,7 @@
 -- Units as pairs of exponents, of inch and of kip.
-use Rattle.std.specs.Prelude.{◌≡◌, Bool, cond, ◌&&◌, ◌⊎◌, List, [], ◌∷◌, ◌++◌, ℤ, pos, negsuc, ◌+ℤ◌, ◌-ℤ◌, Ok, Err, Result, int_le}
+use Rattle.std.specs.Prelude.{◌≡◌, Bool, if◌then◌else◌, ◌&&◌, ◌⊎◌, List, [], ◌∷◌, ◌++◌, ℤ, pos, negsuc, ◌+ℤ◌, ◌-ℤ◌, Ok, Err, Option, Result, int_le, SomeIff, FitsSigned}
+use Rattle.std.specs.Int.{w8}
+use Rattle.std.specs.Ordering.{int_eq}
 use Rattle.lines.specs.declared.reader.Op.{Op}
 use Rattle.lines.specs.declared.reader.Op.TheVariants as op
 use Rattle.books.specs.declared.refusal.Refusal.{Refusal}
@@ -16,26 +18,31 @@ small x = int_le (negsuc 11) x && int_le x (pos 12)
 abbrev pub small_unit : ℤ × ℤ → Bool
 small_unit u = small u.0 && small u.1
 
--- two numbers are equal, and two units are
-abbrev pub eq_z : ℤ → ℤ → Bool
-eq_z x y = int_le x y && int_le y x
-
+-- two units are equal
 abbrev pub same_unit : ℤ × ℤ → ℤ × ℤ → Bool
-same_unit a b = eq_z a.0 b.0 && eq_z a.1 b.1
+same_unit a b = int_eq a.0 b.0 && int_eq a.1 b.1
+
+-- the unit whose exponents an operation makes of two units'
+abbrev pub each_exponent : (ℤ → ℤ → ℤ) → ℤ × ℤ → ℤ × ℤ → ℤ × ℤ
+each_exponent op a b = (op a.0 b.0, op a.1 b.1)
 
 -- the unit of a product, and of a quotient
 abbrev pub times_unit : ℤ × ℤ → ℤ × ℤ → ℤ × ℤ
-times_unit a b = (a.0 +ℤ b.0, a.1 +ℤ b.1)
+times_unit = each_exponent ◌+ℤ◌
 
 abbrev pub over_unit : ℤ × ℤ → ℤ × ℤ → ℤ × ℤ
-over_unit a b = (a.0 -ℤ b.0, a.1 -ℤ b.1)
+over_unit = each_exponent ◌-ℤ◌
+
+-- a call at x and y gives what the operation does, or `None` where an `i8` cannot hold it
+abbrev pub IsExact : (ℤ → ℤ → Option ℤ → Type 0) → (ℤ → ℤ → ℤ) → ℤ → ℤ → Type 0
+IsExact post op x y = (r : Option ℤ) → post x y r → SomeIff r (FitsSigned w8 (op x y)) (op x y)
 
 -- a unit that is to be small, and one of two that are to be equal
 abbrev pub reach : ℤ × ℤ → Result (ℤ × ℤ) Refusal
-reach u = cond (small_unit u) (Ok u) (Err refusal.Exponent)
+reach u = if small_unit u then Ok u else Err refusal.Exponent
 
 abbrev pub equal : ℤ × ℤ → ℤ × ℤ → Result (ℤ × ℤ) Refusal
-equal a b = cond (same_unit a b) (Ok a) (Err refusal.Units)
+equal a b = if same_unit a b then Ok a else Err refusal.Units
 
 -- the unit of a sign's result, from those of its operands
 abbrev pub join_units : Op → ℤ × ℤ → ℤ × ℤ → Result (ℤ × ℤ) Refusal
@@ -59,7 +66,7 @@ formula_unit unit (Formula.join o f g) = after (formula_unit unit f) (λ a. afte
 
 -- the sides of a rule agree: in a root rule the left side's exponents, doubled, are the right side's
 abbrev pub sides_agree : Bool → ℤ × ℤ → ℤ × ℤ → Bool
-sides_agree root a b = cond root (same_unit (times_unit a a) b) (same_unit a b)
+sides_agree root a b = if root then same_unit (times_unit a a) b else same_unit a b
 
 -- ---- the same on a row of steps, over a stack of units
 

@@ -1,21 +1,119 @@
-// A book: entries, lines and rules, and the steps of their formulas.
-ghost use Rattle.std.specs.Prelude.{◌≤◌, vec_len, vec_capacity};
-ghost use Rattle.books.specs.Books.{LinesStand, LineWords, RulesStand, RuleWords};
+// A book: entries, lines and rules, and the steps of their formulas. (What adds to it is in adding.rt, its checks in checks.rt.)
+ghost use Rattle.std.specs.Prelude.{◌≡◌, ℕ, ◌≤◌, length, Decides, IfOk};
+ghost use Rattle.sets.specs.Members.{has};
+ghost use Rattle.books.specs.Formulas.{entry};
+ghost use Rattle.books.specs.Books.{part, Stands};
+ghost use Rattle.books.specs.Drafts.{nothing, LinesHold, RulesHold, Whole, LineDepends, RuleDepends};
 
-use crate::step::{Entry, Line, Rule, Step};
+use crate::places::places;
+use crate::reserved::Reserved;
+use crate::slices::cut;
+use crate::step::{Entry, Line, Rule, Span, Step};
+use sets::Set64;
+use std::alloc::{AllocError, Global};
+use std::marker::Model;
 
 #[derive(Drop)]
 pub struct Book {
-    pub(crate) entries: Vec<Entry>,
-    pub(crate) lines: Vec<Line>,
-    pub(crate) rules: Vec<Rule>,
-    pub(crate) steps: Vec<Step>,
-    ghost entries_room: { (vec_len entries ≤ 64) × (64 ≤ vec_capacity entries) },
-    ghost lines_room: { (vec_len lines ≤ 64) × (64 ≤ vec_capacity lines) },
-    ghost rules_room: { (vec_len rules ≤ 64) × (64 ≤ vec_capacity rules) },
-    ghost steps_room: { (vec_len steps ≤ 1024) × (1024 ≤ vec_capacity steps) },
-    ghost lines_stand: { LinesStand entries.items lines.items steps.items },
-    ghost line_words: { LineWords lines.items steps.items },
-    ghost rules_stand: { RulesStand entries.items lines.items rules.items steps.items },
-    ghost rule_words: { RuleWords lines.items rules.items steps.items },
+    pub(crate) entries: Reserved<Entry, 64>,
+    pub(crate) lines: Reserved<Line, 64>,
+    pub(crate) rules: Reserved<Rule, 64>,
+    pub(crate) steps: Reserved<Step, 1024>,
+}
+
+// Clauses see its lists.
+impl Model for Book {
+    ghost use Rattle.books.specs.Books.{Lists, Stands};
+
+    ghost Value = { Lists };
+
+    ghost view = { λ b. record { entries = b.entries; lines = b.lines; rules = b.rules; steps = b.steps } };
+
+    ghost invariant = { λ b. Stands (record { entries = b.entries; lines = b.lines; rules = b.rules; steps = b.steps }) };
+}
+
+// the lines and the rules that depend on an entry
+#[derive(Clone, Copy)]
+pub struct Dependents {
+    pub lines: Set64,
+    pub rules: Set64,
+}
+
+impl Book {
+    // Takes all the memory that a book can need.
+    pub(crate) fn open(heap: Global) -> Result<Book, AllocError>
+        ensures { IfOk result (λ b. b ≡ nothing) }
+    {
+        Ok(Book {
+            entries: Reserved::open(heap)?,
+            lines: Reserved::open(heap)?,
+            rules: Reserved::open(heap)?,
+            steps: Reserved::open(heap)?,
+        })
+    }
+
+    // The entries, by their numbers.
+    pub fn entries(&self) -> &[Entry]
+        ensures items { result.now ≡ self.now.entries }
+        ensures few { length result.now ≤ 64 }
+    {
+        self.entries.as_slice()
+    }
+
+    // The lines, by their numbers.
+    pub fn lines(&self) -> &[Line]
+        ensures items { result.now ≡ self.now.lines }
+        ensures few { length result.now ≤ 64 }
+        ensures hold { LinesHold self.now }
+    {
+        self.lines.as_slice()
+    }
+
+    // The rules, by their numbers.
+    pub fn rules(&self) -> &[Rule]
+        ensures items { result.now ≡ self.now.rules }
+        ensures few { length result.now ≤ 64 }
+        ensures hold { RulesHold self.now }
+    {
+        self.rules.as_slice()
+    }
+
+    // The steps of a span, clipped where it leaves the book's steps, as no span of a line or a rule does.
+    pub fn steps(&self, span: Span) -> &[Step]
+        ensures items { result.now ≡ part self.now.steps span }
+        ensures few { length self.now.steps ≤ 1024 }
+        ensures stands { Stands self.now }
+    {
+        cut(self.steps.as_slice(), span.start, span.len)
+    }
+
+    // Apart from `dependents`, since its proof is written out: a wrong line there is refused as a fact that does not hold.
+    fn needing(&self, number: u8) -> Dependents
+        ensures lines { (k : ℕ) → Decides (has result.lines k) (LineDepends self.now k (entry number)) }
+        ensures rules { (k : ℕ) → Decides (has result.rules k) (RuleDepends self.now k (entry number)) }
+    {
+        let lines = self.lines.as_slice();
+        let rules = self.rules.as_slice();
+        Dependents {
+            lines: places(lines, |line| line.needs.entries.contains(number)),
+            rules: places(rules, |rule| rule.needs.entries.contains(number)),
+        }
+    }
+
+    // The lines and the rules that depend on the entry of the number.
+    pub fn dependents(&self, number: u8) -> Dependents
+        ensures lines { (k : ℕ) → Decides (has result.lines k) (LineDepends self.now k (entry number)) }
+        ensures rules { (k : ℕ) → Decides (has result.rules k) (RuleDepends self.now k (entry number)) }
+    {
+        self.needing(number)
+    }
+
+    // The book itself. What holds of every book is known where one of its fields is read.
+    pub(crate) fn whole(self) -> Book
+        ensures same { result ≡ self }
+        ensures whole { Whole result }
+    {
+        let _ = &self.entries;
+        self
+    }
 }

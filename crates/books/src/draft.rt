@@ -1,17 +1,73 @@
-// A draft: a book that takes lines, with the memory for reading one.
-ghost use Rattle.std.specs.Prelude.{◌≤◌, vec_capacity};
+// A draft: a book that takes lines. It is moved into a closed book, which takes none.
+ghost use Rattle.std.specs.Prelude.{◌≡◌, IfOk};
+ghost use Rattle.lines.specs.Grammar.{Stated};
+ghost use Rattle.books.specs.Drafts.{nothing, Reads, Settles, Unadded, Adds, Whole};
+ghost use Rattle.lines.specs.declared.refusal.Refusal.{Refusal as Unread};
+ghost use Rattle.lines.specs.Faults.{Refused};
 
 use crate::book::Book;
-use crate::step::Step;
-use lines::{Steps, Unit};
+use crate::desk::Desk;
+use crate::refusal::Refusal;
+use lines::{Statement, read_line};
+use std::alloc::{AllocError, Global};
+use std::marker::Model;
 
 #[derive(Drop)]
 pub struct Draft {
-    pub(crate) book: Book,
-    // the line that was read last: its steps, with names as they stand and looked up, and the units of operands
-    pub(crate) parsed: Steps,
-    pub(crate) row: Vec<Step>,
-    pub(crate) units: Vec<Unit>,
-    ghost row_room: { 120 ≤ vec_capacity row },
-    ghost units_room: { 120 ≤ vec_capacity units },
+    book: Book,
+    desk: Desk,
+}
+
+// Clauses see the lists of its book.
+impl Model for Draft {
+    ghost use Rattle.books.specs.Books.{Lists};
+
+    ghost Value = { Lists };
+
+    ghost view = { λ d. d.book };
+}
+
+impl Draft {
+    // Takes all the memory that a book can need; adding then asks for none.
+    pub fn open(heap: Global) -> Result<Draft, AllocError>
+        ensures { IfOk result (λ d. d ≡ nothing) }
+    {
+        Ok(Draft {
+            book: Book::open(heap)?,
+            desk: Desk::open(heap)?,
+        })
+    }
+
+    // Apart from `add`, since its proof is written out: a wrong line there is refused as a fact that does not hold.
+    fn add_stated(&mut self, line: &[u8]) -> Result<(), Refusal>
+        ensures adds { Adds self.old line.now result self.new }
+        ensures settles { (s : Stated) → Reads line.now s → Settles self.old s result self.new }
+        ensures refused { (u : Unread) → Refused line.now u → Unadded self.old u result self.new }
+    {
+        match read_line(line, &mut self.desk.parsed)? {
+            Statement::Blank => Ok(()),
+            Statement::Entry { name, unit } => self.book.add_entry(name, unit),
+            Statement::Line { name } => self.desk.add_line(&mut self.book, line, name),
+            Statement::Rule { name, root, split } => {
+                self.desk.add_rule(&mut self.book, line, name, root, split)
+            }
+        }
+    }
+
+    // Adds what the line states at the end of the book, or adds nothing and says why.
+    pub fn add(&mut self, line: &[u8]) -> Result<(), Refusal>
+        ensures adds { Adds self.old line.now result self.new }
+        ensures settles { (s : Stated) → Reads line.now s → Settles self.old s result self.new }
+        ensures refused { (u : Unread) → Refused line.now u → Unadded self.old u result self.new }
+    {
+        self.add_stated(line)
+    }
+
+    // The book, which takes no more lines.
+    pub fn close(self) -> Book
+        ensures lists { result ≡ self }
+        ensures whole { Whole result }
+    {
+        self.book.whole()
+    }
 }

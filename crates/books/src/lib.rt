@@ -4,20 +4,19 @@
 mod adding;
 mod book;
 mod checks;
-mod closed;
-mod depends;
+mod desk;
 mod draft;
-mod drafting;
 mod name;
 mod names;
 mod needs;
+mod places;
 mod refusal;
+mod reserved;
 mod slices;
 mod step;
 mod units;
 
-pub use book::Book;
-pub use closed::Dependents;
+pub use book::{Book, Dependents};
 pub use draft::Draft;
 pub use name::Name;
 pub use refusal::Refusal;

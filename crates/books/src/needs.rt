@@ -1,21 +1,32 @@
 // What a formula needs.
-ghost use Rattle.std.specs.Prelude.{◌≡◌, ℕ, ◌||◌};
-ghost use Rattle.std.specs.List.{slice_get};
+ghost use Rattle.std.specs.Prelude.{◌≡◌, ℕ, false, ◌||◌};
 ghost use Rattle.sets.specs.Members.{has};
 ghost use Rattle.books.specs.Needs.{step_entry, step_line, row_entry, row_line};
 
 use crate::step::{Line, Needs, Step};
 use sets::Set64;
 
-// The line of the number, if there is one.
-pub(crate) fn line_at(lines: &[Line], i: u8) -> Option<Line>
-    ensures { result ≡ slice_get lines.now i }
-{
-    let i = i as usize;
-    if i < lines.len() {
-        Some(lines[i])
-    } else {
-        None
+impl Needs {
+    // Nothing is needed.
+    fn none() -> Needs
+        ensures entries { (e : ℕ) → has result.entries e ≡ false }
+        ensures lines { (k : ℕ) → has result.lines k ≡ false }
+    {
+        Needs {
+            entries: Set64::empty(),
+            lines: Set64::empty(),
+        }
+    }
+
+    // What either needs.
+    pub(crate) fn plus(self, other: Needs) -> Needs
+        ensures entries { (e : ℕ) → has result.entries e ≡ has self.entries e || has other.entries e }
+        ensures lines { (k : ℕ) → has result.lines k ≡ has self.lines k || has other.lines k }
+    {
+        Needs {
+            entries: self.entries.plus(other.entries),
+            lines: self.lines.plus(other.lines),
+        }
     }
 }
 
@@ -26,32 +37,18 @@ fn step_needs(lines: &[Line], step: Step) -> Needs
     match step {
         Step::Entry(i) => Needs {
             entries: Set64::single(i),
-            lines: Set64::empty(),
+            ..Needs::none()
         },
-        Step::Line(i) => match line_at(lines, i) {
-            Some(line) => Needs {
-                entries: line.needs.entries,
-                lines: Set64::single(i).plus(line.needs.lines),
-            },
-            None => Needs {
-                entries: Set64::empty(),
+        Step::Line(i) => {
+            let named = Needs {
                 lines: Set64::single(i),
-            },
-        },
-        _ => Needs {
-            entries: Set64::empty(),
-            lines: Set64::empty(),
-        },
-    }
-}
-
-pub(crate) fn joined(a: Needs, b: Needs) -> Needs
-    ensures entries { (e : ℕ) → has result.entries e ≡ has a.entries e || has b.entries e }
-    ensures lines { (k : ℕ) → has result.lines k ≡ has a.lines k || has b.lines k }
-{
-    Needs {
-        entries: a.entries.plus(b.entries),
-        lines: a.lines.plus(b.lines),
+                ..Needs::none()
+            };
+            lines
+                .get(usize::from(i))
+                .map_or(named, |line| named.plus(line.needs))
+        }
+        Step::Number(_, _) | Step::Op(_) => Needs::none(),
     }
 }
 
@@ -60,12 +57,9 @@ pub(crate) fn row_needs(lines: &[Line], row: &[Step]) -> Needs
     ensures entries { (e : ℕ) → has result.entries e ≡ row_entry lines.now row.now e }
     ensures lines { (k : ℕ) → has result.lines k ≡ row_line lines.now row.now k }
 {
-    let mut needs = Needs {
-        entries: Set64::empty(),
-        lines: Set64::empty(),
-    };
+    let mut needs = Needs::none();
     for step in row {
-        needs = joined(needs, step_needs(lines, *step));
+        needs = needs.plus(step_needs(lines, *step));
     }
     needs
 }

@@ -1,66 +1,62 @@
 // Units as pairs of exponents, of inch and of kip.
-ghost use Rattle.std.specs.Prelude.{◌≡◌, ◌≤◌, length, ◌+ℤ◌, ◌-ℤ◌, if◌then◌else◌, Some, None, vec_len, vec_capacity};
-ghost use Rattle.std.specs.List.{slice_get};
+ghost use Rattle.std.specs.Prelude.{◌≡◌, ◌≤◌, length, ℤ, ◌+ℤ◌};
+ghost use Rattle.std.specs.Bool.{then_some};
+ghost use Rattle.std.specs.Ordering.{int_eq};
 ghost use Rattle.books.specs.Books.{units};
 ghost use Rattle.books.specs.Formulas.{Formula, steps};
-ghost use Rattle.books.specs.Units.{small, eq_z, small_unit, same_unit, times_unit, over_unit, join_units, sides_agree, formula_unit, step_unit, Pops, Steps};
+ghost use Rattle.books.specs.Units.{small_unit, each_exponent, IsExact, same_unit, times_unit, over_unit, join_units, sides_agree, step_unit, Pops, Steps};
+ghost use Rattle.books.specs.Drafts.{unit_in};
 
-use crate::needs::line_at;
+use crate::book::Book;
 use crate::refusal::Refusal;
-use crate::step::{Entry, Line, Step};
+use crate::reserved::Reserved;
+use crate::step::Step;
 use lines::{Op, Unit};
 
-// The exponent, if it is from -12 to 12.
-fn within_reach(z: i8) -> Option<i8>
-    ensures { result ≡ (if small z then Some z else None) }
+// Whether both exponents are from -12 to 12.
+fn within_reach(unit: Unit) -> bool
+    ensures { result ≡ small_unit unit }
 {
-    if -12 <= z && z <= 12 { Some(z) } else { None }
+    let reach = -12..=12;
+    reach.contains(&unit.0) && reach.contains(&unit.1)
 }
 
-fn add_exponents(x: i8, y: i8) -> Option<i8>
-    ensures { result ≡ (if small (x +ℤ y) then Some (x +ℤ y) else None) }
+// The unit that an operation makes of both exponents, where neither leaves -12 to 12.
+fn combined<F: Fn(i8, i8) -> Option<i8>>(a: Unit, b: Unit, by: F) -> Option<Unit>
+    ghost exact: { ℤ → ℤ → ℤ }
+    requires callable { F.IsAlwaysCallable by }
+    requires inch { IsExact (F.post by) exact a.0 b.0 }
+    requires kip { IsExact (F.post by) exact a.1 b.1 }
+    ensures { let u = each_exponent exact a b in result ≡ then_some (small_unit u) u }
 {
-    within_reach(x.checked_add(y)?)
+    let unit = (by(a.0, b.0)?, by(a.1, b.1)?);
+    within_reach(unit).then_some(unit)
 }
 
-fn sub_exponents(x: i8, y: i8) -> Option<i8>
-    ensures { result ≡ (if small (x -ℤ y) then Some (x -ℤ y) else None) }
+fn product(a: Unit, b: Unit) -> Option<Unit>
+    ensures { let u = times_unit a b in result ≡ then_some (small_unit u) u }
 {
-    within_reach(x.checked_sub(y)?)
+    combined(a, b, i8::checked_add)
 }
 
-// The unit of a product, where no exponent leaves -12 to 12.
-fn times_unit(a: Unit, b: Unit) -> Option<Unit>
-    ensures { result ≡ (if small_unit (times_unit a b) then Some (times_unit a b) else None) }
+fn quotient(a: Unit, b: Unit) -> Option<Unit>
+    ensures { let u = over_unit a b in result ≡ then_some (small_unit u) u }
 {
-    let inch = add_exponents(a.0, b.0)?;
-    let kip = add_exponents(a.1, b.1)?;
-    Some((inch, kip))
-}
-
-// The unit of a quotient, where no exponent leaves -12 to 12.
-fn over_unit(a: Unit, b: Unit) -> Option<Unit>
-    ensures { result ≡ (if small_unit (over_unit a b) then Some (over_unit a b) else None) }
-{
-    let inch = sub_exponents(a.0, b.0)?;
-    let kip = sub_exponents(a.1, b.1)?;
-    Some((inch, kip))
-}
-
-fn same_unit(a: Unit, b: Unit) -> bool
-    ensures { result ≡ same_unit a b }
-{
-    a.0 == b.0 && a.1 == b.1
+    combined(a, b, i8::checked_sub)
 }
 
 // Whether y is x doubled.
 fn doubles(x: i8, y: i8) -> bool
-    ensures { result ≡ eq_z (x +ℤ x) y }
+    ensures { result ≡ int_eq (x +ℤ x) y }
 {
-    match x.checked_add(x) {
-        Some(z) => z == y,
-        None => false,
-    }
+    x.checked_add(x) == Some(y)
+}
+
+// Whether b is the unit of a squared.
+fn squares(a: Unit, b: Unit) -> bool
+    ensures { result ≡ same_unit (times_unit a a) b }
+{
+    doubles(a.0, b.0) && doubles(a.1, b.1)
 }
 
 // Whether the units of a rule's sides agree.
@@ -68,9 +64,9 @@ pub(crate) fn sides_agree(root: bool, left: Unit, right: Unit) -> bool
     ensures { result ≡ sides_agree root left right }
 {
     if root {
-        doubles(left.0, right.0) && doubles(left.1, right.1)
+        squares(left, right)
     } else {
-        same_unit(left, right)
+        left == right
     }
 }
 
@@ -79,76 +75,44 @@ fn join_units(op: Op, a: Unit, b: Unit) -> Result<Unit, Refusal>
     ensures { result ≡ join_units op a b }
 {
     match op {
-        Op::Mul => match times_unit(a, b) {
-            Some(unit) => Ok(unit),
-            None => Err(Refusal::Exponent),
-        },
-        Op::Div => match over_unit(a, b) {
-            Some(unit) => Ok(unit),
-            None => Err(Refusal::Exponent),
-        },
+        Op::Mul => product(a, b).ok_or(Refusal::Exponent),
+        Op::Div => quotient(a, b).ok_or(Refusal::Exponent),
         Op::Add | Op::Sub | Op::Min | Op::Max => {
-            if same_unit(a, b) {
-                Ok(a)
-            } else {
-                Err(Refusal::Units)
-            }
+            if a == b { Ok(a) } else { Err(Refusal::Units) }
         }
     }
 }
 
-// The entry of the number, if there is one.
-fn entry_at(entries: &[Entry], i: u8) -> Option<Entry>
-    ensures { result ≡ slice_get entries.now i }
-{
-    let i = i as usize;
-    if i < entries.len() {
-        Some(entries[i])
-    } else {
-        None
-    }
-}
-
 // The unit of a number, or of the entry or the line.
-fn operand_unit(entries: &[Entry], lines: &[Line], step: Step) -> Unit
-    ensures { result ≡ step_unit (units entries.now lines.now) step }
+fn operand_unit(book: &Book, step: Step) -> Unit
+    ensures { result ≡ step_unit (units book.now.entries book.now.lines) step }
 {
     match step {
         Step::Number(_, unit) => unit,
-        Step::Entry(i) => match entry_at(entries, i) {
-            Some(entry) => entry.unit,
-            None => (0, 0),
-        },
-        Step::Line(i) => match line_at(lines, i) {
-            Some(line) => line.unit,
-            None => (0, 0),
-        },
+        Step::Entry(i) => {
+            let entry = book.entries().get(usize::from(i));
+            entry.map_or((0, 0), |entry| entry.unit)
+        }
+        Step::Line(k) => {
+            let line = book.lines().get(usize::from(k));
+            line.map_or((0, 0), |line| line.unit)
+        }
         Step::Op(_) => (0, 0),
     }
 }
 
-// The unit at the end of the stack.
-fn pop_unit(stack: &mut Vec<Unit>) -> Unit
-    ensures taken { Pops stack.old.items result stack.new.items }
-    ensures len { vec_len stack.new ≤ vec_len stack.old }
-    ensures capacity { vec_capacity stack.new ≡ vec_capacity stack.old }
+// The unit at the end of the stack; (0, 0) where it is empty.
+fn pop_unit(stack: &mut Reserved<Unit, 120>) -> Unit
+    ensures taken { Pops stack.old result stack.new }
+    ensures len { length stack.new ≤ length stack.old }
 {
-    match stack.pop() {
-        Some(unit) => unit,
-        None => (0, 0),
-    }
+    stack.pop().unwrap_or((0, 0))
 }
 
 // Takes the operands of a step off the stack; the unit of its result.
-fn step_unit(
-    entries: &[Entry],
-    lines: &[Line],
-    step: Step,
-    stack: &mut Vec<Unit>,
-) -> Result<Unit, Refusal>
-    ensures unit { Steps (units entries.now lines.now) step stack.old.items stack.new.items result }
-    ensures len { vec_len stack.new ≤ vec_len stack.old }
-    ensures capacity { vec_capacity stack.new ≡ vec_capacity stack.old }
+fn step_unit(book: &Book, step: Step, stack: &mut Reserved<Unit, 120>) -> Result<Unit, Refusal>
+    ensures unit { Steps (units book.now.entries book.now.lines) step stack.old stack.new result }
+    ensures len { length stack.new ≤ length stack.old }
 {
     match step {
         Step::Op(op) => {
@@ -156,27 +120,23 @@ fn step_unit(
             let left = pop_unit(stack);
             join_units(op, left, right)
         }
-        Step::Number(_, _) | Step::Entry(_) | Step::Line(_) => Ok(operand_unit(
-            entries, lines, step,
-        )),
+        _ => Ok(operand_unit(book, step)),
     }
 }
 
 // The unit of a row, or the refusal of its first step that has one.
 pub(crate) fn row_unit(
-    entries: &[Entry],
-    lines: &[Line],
+    book: &Book,
     row: &[Step],
-    stack: &mut Vec<Unit>,
+    stack: &mut Reserved<Unit, 120>,
 ) -> Result<Unit, Refusal>
-    requires { length row.now ≤ vec_capacity stack.old }
-    ensures unit { (f : Formula) → row.now ≡ steps f → result ≡ formula_unit (units entries.now lines.now) f }
-    ensures capacity { vec_capacity stack.new ≡ vec_capacity stack.old }
+    requires { length row.now ≤ 120 }
+    ensures { (f : Formula) → row.now ≡ steps f → result ≡ unit_in book.now f }
 {
     stack.clear();
     for step in row {
-        let unit = step_unit(entries, lines, *step, stack)?;
-        stack.push_reserved(unit);
+        let unit = step_unit(book, *step, stack)?;
+        stack.push(unit);
     }
     Ok(pop_unit(stack))
 }

@@ -1,16 +1,13 @@
 -- A blank cuts a line wherever it stands.
 use Rattle.std.proofs.Common.{◌≡◌, ℕ, zero, suc, ◌+◌, ◌<◌, ◌≤◌, Bool, true, false, cond, ◌&&◌, eqb, leb, List, [], ◌∷◌, ◌++◌, length, get_or, take, drop, pos, is_some, Some, None, Option, unwrap_or, sym, refl, ap, ◌∙◌, subst, arith, length-drop, ne_eqb, eqb-true}
-use borrow.Author.Tests.{clash}
-use lib.Seq.{take-append-le, drop-append-le}
 use Rattle.std.specs.Char.{is_ascii_digit, is_ascii_alphabetic, is_ascii_alphanumeric}
 use Rattle.std.specs.List.{prefix_len}
-use Rattle.std.proofs.lemmas.List.{get_or_past}
+use Rattle.std.proofs.lemmas.List.{get_or_past, take-append-le, drop-append-le}
 use Rattle.std.proofs.lemmas.List.Sums.{prefix_len-le-length}
-use Rattle.lines.specs.declared.token.Class.TheVariants as class
 use Rattle.lines.specs.declared.token.Sign.{Sign}
 use Rattle.lines.specs.declared.token.Sign.TheVariants as signs
 use Rattle.lines.specs.Words.{unit_of}
-use Rattle.lines.specs.Tokens.{Tok, least, run, sign_of, sign_tok, sign_width, whole, pointed, decimals, decimal_digits, counted, thousandths, numeral_len, few_digits, well_formed, front_unit, unit_len, number_tok, number_width, part, width, unblank, up_to, parts}
+use Rattle.lines.specs.Tokens.{Tok, least, is_blank, sign_of, sign_tok, sign_width, whole, pointed, decimals, decimal_digits, counted, thousandths, numeral_len, few_digits, well_formed, front_unit, unit_len, number_tok, number_width, part, width, unblank, up_to, parts}
 use Rattle.lines.proofs.Moves.{width_least, parts_step}
 
 either : {A : Type 0} (P : A → Type 0) (t : Bool) (x y : A) → P x → P y → P (cond t x y)
@@ -54,7 +51,7 @@ numeral_le c = go (pointed c) refl
     go false e = prefix_len-le-length is_ascii_digit c
 
 unit_le : (c : List ℕ) → unit_len c ≤ length c
-unit_le c = either (λ n. n ≤ length c) (is_some (front_unit c)) (run class.Word c) 0 (prefix_len-le-length is_ascii_alphanumeric c) (omega arith)
+unit_le c = either (λ n. n ≤ length c) (is_some (front_unit c)) (prefix_len is_ascii_alphanumeric c) 0 (prefix_len-le-length is_ascii_alphanumeric c) (omega arith)
 
 number_le : (c : List ℕ) → number_width c ≤ length c
 number_le c =
@@ -68,7 +65,7 @@ width_le x c =
     P n = n ≤ length (x ∷ c)
 
     two : (l : List ℕ) → eqb (get_or l 0 0) 61 ≡ true → 2 ≤ suc (length l)
-    two [] e = absurd (clash e)
+    two [] e = cc
     two (y ∷ l) e = omega arith
 
 -- where a byte stands, a part does
@@ -80,7 +77,7 @@ some_part x c =
     P t = 1 ≤ least t
 
     rest : Tok
-    rest = cond (is_ascii_alphabetic x) (Tok.word (take (run class.Word (x ∷ c)) (x ∷ c))) (cond (is_ascii_digit x) (number_tok (x ∷ c)) (sign_tok (sign_of x (get_or c 0 0))))
+    rest = cond (is_ascii_alphabetic x) (Tok.word (take (prefix_len is_ascii_alphanumeric (x ∷ c)) (x ∷ c))) (cond (is_ascii_digit x) (number_tok (x ∷ c)) (sign_tok (sign_of x (get_or c 0 0))))
 
     signed : (o : Option Sign) → P (sign_tok o)
     signed None = omega arith
@@ -89,11 +86,11 @@ some_part x c =
 -- the blanks at the front
 unblank_yes : (y : ℕ) (a : List ℕ) → eqb y 32 ≡ true → unblank (y ∷ a) ≡ unblank a
 unblank_yes y a e =
-    let more : 1 + run class.Blank a ≡ suc (run class.Blank a) = omega arith in
-    ap (λ t. drop (cond t (1 + run class.Blank a) 0) (y ∷ a)) e ∙ ap (λ n. drop n (y ∷ a)) more
+    let more : 1 + prefix_len is_blank a ≡ suc (prefix_len is_blank a) = omega arith in
+    ap (λ t. drop (cond t (1 + prefix_len is_blank a) 0) (y ∷ a)) e ∙ ap (λ n. drop n (y ∷ a)) more
 
 unblank_no : (y : ℕ) (a : List ℕ) → eqb y 32 ≡ false → unblank (y ∷ a) ≡ y ∷ a
-unblank_no y a e = ap (λ t. drop (cond t (1 + run class.Blank a) 0) (y ∷ a)) e
+unblank_no y a e = ap (λ t. drop (cond t (1 + prefix_len is_blank a) 0) (y ∷ a)) e
 
 look_sign : (x m n : ℕ) → eqb m 61 ≡ eqb n 61 → sign_of x m ≡ sign_of x n
 look_sign x m n e = rw e
@@ -218,7 +215,7 @@ module _ (b : List ℕ) where
       go [] e ih = parts_step (a ++ 32 ∷ b) ∙ ap stepped (unblank_all a e) ∙ sym (parts_step b) ∙ ap (λ ts. ts ++ parts b) (sym (parts_step a ∙ ap stepped e))
       go (x ∷ c) e ih =
           let rest = drop (width (x ∷ c)) (x ∷ c) in
-          let shorter : length rest < n = omega (arith, h, some_part x c, width_least (x ∷ c), length-drop (width (x ∷ c)) (x ∷ c), ap length e, length-drop (run class.Blank a) a) in
+          let shorter : length rest < n = omega (arith, h, some_part x c, width_least (x ∷ c), length-drop (width (x ∷ c)) (x ∷ c), ap length e, length-drop (prefix_len is_blank a) a) in
           parts_step (a ++ 32 ∷ b) ∙ ap stepped (unblank_cut a x c e) ∙ (λ i. up_to (part_cut x c i) (parts (after_cut x c i))) ∙ cut_up (part (x ∷ c)) (parts (rest ++ 32 ∷ b)) (parts rest) (some_part x c) (ih rest shorter) ∙ ap (λ ts. ts ++ parts b) (sym (parts_step a ∙ ap stepped e))
 
 pub blank_cuts : (a b : List ℕ) → parts (a ++ 32 ∷ b) ≡ parts a ++ parts b

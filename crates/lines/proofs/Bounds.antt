@@ -1,19 +1,18 @@
 -- How long the names and how large the numbers of a line are.
-use Rattle.std.proofs.Common.{◌≡◌, ℕ, zero, suc, ◌+◌, ◌-◌, ◌*◌, ◌^◌, ◌<◌, ◌≤◌, Bool, true, false, cond, ◌&&◌, eqb, leb, List, [], ◌∷◌, length, get_or, take, drop, ℤ, Some, None, Option, sym, refl, ap, ◌∙◌, subst, arith, leb-true}
-use borrow.Author.Tests.{clash}
-use Rattle.std.specs.Str.Parse.{AllDigits, digits_value}
-use Rattle.std.specs.Char.{is_ascii_digit, is_ascii_alphabetic}
-use Rattle.std.proofs.lemmas.Int.Digits.{digits_value-lt}
+use Rattle.std.proofs.Common.{◌≡◌, ℕ, zero, suc, ◌+◌, ◌<◌, ◌≤◌, Bool, true, false, cond, ◌&&◌, eqb, leb, List, [], ◌∷◌, length, get_or, take, drop, ℤ, Some, None, Option, unwrap_or, option_map, sym, refl, ap, ◌∙◌, subst, arith, leb-true, length-take}
+use Rattle.std.specs.Str.Parse.{AllDigits}
+use Rattle.std.specs.Char.{is_ascii_digit, is_ascii_alphabetic, is_ascii_alphanumeric}
+use Rattle.std.specs.List.{prefix_len}
+use Rattle.std.specs.Map.{lookup}
 use Rattle.std.specs.Str.{bytes_eq}
-use Rattle.lines.specs.declared.token.Class.TheVariants as class
 use Rattle.lines.specs.declared.token.Sign.{Sign}
 use Rattle.lines.specs.declared.word.Word.{Word}
 use Rattle.lines.specs.declared.word.Word.TheVariants as words
-use Rattle.lines.specs.Tokens.{Tok, run, sign_of, unblank, whole, pointed, decimals, whole_digits, counted, thousandths, few_digits, well_formed, number_tok, sign_tok, part, front, after, up_to, parts_up, parts}
-use Rattle.lines.specs.Words.{among, reserved, unit_or, unit_of, plain_word_of, word_of}
+use Rattle.lines.specs.Tokens.{Tok, sign_of, unblank, whole, pointed, decimals, whole_digits, counted, thousandths, few_digits, well_formed, number_tok, sign_tok, part, front, after, up_to, parts_up, parts}
+use Rattle.lines.specs.Words.{reserved, unit_of, plain_word_of, word_of}
 use Rattle.lines.specs.Expected.{Kind, word_kind, same}
 use Rattle.lines.specs.Grammar.{Tree, Counts, Sum, Product, Factor, Stated, StatedCounts, declares, Right, Line}
-use Rattle.lines.proofs.Counts.{value_under, digits_run}
+use Rattle.lines.proofs.Counts.{six_digits, decimals_small, digits_run}
 
 -- a name is none of the listed words
 
@@ -24,21 +23,21 @@ abbrev Others : List (List ℕ × Word) → Type 0
 Others [] = Unit {0}
 Others (k ∷ ks) = (is_name k.1 ≡ false) × Others ks
 
-past : (ks : List (List ℕ × Word)) → Others ks → (w : List ℕ) (none : Word) → is_name (among ks w none) ≡ true → is_name none ≡ true
+past : (ks : List (List ℕ × Word)) → Others ks → (w : List ℕ) (none : Word) → is_name (unwrap_or (lookup (bytes_eq w) ks) none) ≡ true → is_name none ≡ true
 past [] o w none e = e
 past (k ∷ ks) o w none e = go (bytes_eq w k.0) e (past ks o.1 w none)
   where
-    go : (b : Bool) → is_name (cond b k.1 (among ks w none)) ≡ true → (is_name (among ks w none) ≡ true → is_name none ≡ true) → is_name none ≡ true
-    go true e ih = absurd (clash (sym o.0 ∙ e))
+    go : (b : Bool) → is_name (unwrap_or (cond b (Some k.1) (lookup (bytes_eq w) ks)) none) ≡ true → (is_name (unwrap_or (lookup (bytes_eq w) ks) none) ≡ true → is_name none ≡ true) → is_name none ≡ true
+    go true e ih = cc (sym o.0 ∙ e)
     go false e ih = ih e
 
-no_unit : (o : Option (ℤ × ℤ)) (x : Word) → is_name (unit_or o x) ≡ true → is_name x ≡ true
+no_unit : (o : Option (ℤ × ℤ)) (x : Word) → is_name (unwrap_or (option_map words.Unit o) x) ≡ true → is_name x ≡ true
 no_unit None x e = e
-no_unit (Some u) x e = absurd (clash e)
+no_unit (Some u) x e = cc
 
 short : (b : Bool) → is_name (cond b words.Name words.Other) ≡ true → b ≡ true
 short true e = refl
-short false e = absurd (clash e)
+short false e = cc
 
 -- a name has at most 16 letters and digits
 pub name_short : (w : List ℕ) → word_of w ≡ words.Name → length w ≤ 16
@@ -46,20 +45,8 @@ name_short w e = leb-true (length w) 16 (short (leb (length w) 16) (past reserve
 
 -- a number of at most 6 and 3 digits is below 1,000,000
 
-take_short : (n : ℕ) (bs : List ℕ) → length (take n bs) ≤ n
-take_short zero bs = omega arith
-take_short (suc n) [] = omega arith
-take_short (suc n) (b ∷ bs) = omega (arith, take_short n bs)
-
-decimals_small : (k v : ℕ) → k ≤ 3 → v < 10 ^ k → v * 10 ^ (3 - k) < 1000
-decimals_small zero v h l = omega arith
-decimals_small (suc zero) v h l = omega arith
-decimals_small (suc (suc zero)) v h l = omega arith
-decimals_small (suc (suc (suc zero))) v h l = omega arith
-decimals_small (suc (suc (suc (suc k)))) v h l = absurd (omega arith)
-
 counted_small : (ws ds : List ℕ) → AllDigits 10 ws → length ws ≤ 6 → AllDigits 10 ds → length ds ≤ 3 → counted ws ds < 1000000000
-counted_small ws ds dw w dd d = omega (arith, value_under 6 ws dw w, decimals_small (length ds) (digits_value 10 ds) d (digits_value-lt 10 ds dd))
+counted_small ws ds dw w dd d = omega (arith, six_digits ws dw w, decimals_small ds dd d)
 
 abbrev Small : Tok → Type 0
 Small (Tok.word w) = Unit {0}
@@ -75,16 +62,16 @@ AllSmall (t ∷ ts) = Small t × AllSmall ts
 
 module _ (bs : List ℕ) where
   whole_small : leb (whole bs) 6 ≡ true → length (whole_digits bs) ≤ 6
-  whole_small e = omega (arith, take_short (whole bs) bs, leb-true (whole bs) 6 e)
+  whole_small e = omega (arith, length-take (whole bs) bs, leb-true (whole bs) 6 e)
 
   plain_small : leb (whole bs) 6 ≡ true → counted (whole_digits bs) [] < 1000000000
   plain_small e = counted_small (whole_digits bs) [] (digits_run bs) (whole_small e) tt (omega arith)
 
   point_small : (a b c : Bool) → leb (whole bs) 6 ≡ a → leb (decimals bs) 3 ≡ c → a && (b && c) ≡ true → counted (whole_digits bs) (take (decimals bs) (drop (whole bs + 1) bs)) < 1000000000
-  point_small true true true e f h = counted_small (whole_digits bs) _ (digits_run bs) (whole_small e) (digits_run (drop (whole bs + 1) bs)) (omega (arith, take_short (decimals bs) (drop (whole bs + 1) bs), leb-true (decimals bs) 3 f))
-  point_small true true false e f h = absurd (clash h)
-  point_small true false c e f h = absurd (clash h)
-  point_small false b c e f h = absurd (clash h)
+  point_small true true true e f h = counted_small (whole_digits bs) _ (digits_run bs) (whole_small e) (digits_run (drop (whole bs + 1) bs)) (omega (arith, length-take (decimals bs) (drop (whole bs + 1) bs), leb-true (decimals bs) 3 f))
+  point_small true true false e f h = cc
+  point_small true false c e f h = cc
+  point_small false b c e f h = cc
 
   formed_small : (p : Bool) → cond p (few_digits (whole bs) (decimals bs)) (leb (whole bs) 6) ≡ true → counted (whole_digits bs) (cond p (take (decimals bs) (drop (whole bs + 1) bs)) []) < 1000000000
   formed_small true e = point_small _ (leb 1 (decimals bs)) _ refl refl e
@@ -108,7 +95,7 @@ by_first false false true w t o h = h
 by_first false false false w t o h = sign_small o
 
 part_small : (bs : List ℕ) → Small (part bs)
-part_small bs = by_first (eqb (length bs) 0) (is_ascii_alphabetic (get_or bs 0 0)) (is_ascii_digit (get_or bs 0 0)) (take (run class.Word bs) bs) (number_tok bs) (sign_of (get_or bs 0 0) (get_or bs 1 0)) (number_small bs)
+part_small bs = by_first (eqb (length bs) 0) (is_ascii_alphabetic (get_or bs 0 0)) (is_ascii_digit (get_or bs 0 0)) (take (prefix_len is_ascii_alphanumeric bs) bs) (number_tok bs) (sign_of (get_or bs 0 0) (get_or bs 1 0)) (number_small bs)
 
 up_small : (t : Tok) (ts : List Tok) → Small t → AllSmall ts → AllSmall (up_to t ts)
 up_small (Tok.word w) ts p q = (p, q)

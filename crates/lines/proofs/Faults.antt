@@ -1,16 +1,19 @@
 -- The refusals of the table are the faults of the grammar.
-use Rattle.std.proofs.Common.{◌≡◌, ℕ, suc, ◌+◌, ◌-◌, ◌<◌, ◌≤◌, Bool, true, false, cond, eqb, ◌⊎◌, List, [], ◌∷◌, ◌++◌, length, is_ok, is_err, Ok, Err, codes, Result, sym, refl, ap, ◌∙◌, subst, inl, inr, ⊎_elim, append_assoc, append-nil, arith, ltb-false, ltb-true, le-ltb, lt-ltb, ne_eqb, eqb-true, MatchResult}
+use Rattle.std.proofs.Common.{◌≡◌, ℕ, suc, ◌+◌, ◌-◌, ◌<◌, ◌≤◌, Bool, true, false, cond, eqb, ◌⊎◌, List, [], ◌∷◌, ◌++◌, length, is_ok, Ok, Err, codes, Result, sym, refl, ap, ◌∙◌, subst, inl, inr, ⊎_elim, append_assoc, append-nil, arith, ltb-false, ltb-true, le-ltb, lt-ltb, ne_eqb, eqb-true, MatchResult}
 use borrow.Author.Tests.{clash}
+use Rattle.lines.specs.declared.reader.Raw.{Raw}
 use Rattle.lines.specs.declared.refusal.Refusal.{Refusal}
 use Rattle.lines.specs.declared.refusal.Refusal.TheVariants as refusal
+use Rattle.lines.specs.declared.statement.Statement.{Statement}
+use Rattle.lines.specs.declared.statement.Statement.TheVariants as st
 use Rattle.lines.specs.declared.token.Sign.TheVariants as signs
 use Rattle.lines.specs.declared.word.Word.{Word}
 use Rattle.lines.specs.declared.word.Word.TheVariants as words
 use Rattle.lines.specs.Tokens.{Tok, parts}
 use Rattle.lines.specs.Words.{word_of}
-use Rattle.lines.specs.Grammar.{Stated, Line}
+use Rattle.lines.specs.Grammar.{Item, Stated, Line}
 use Rattle.lines.specs.Expected.{Kind, Paren, Side, State, Move, kind_of, word_kind, kind_number, same, among, operands, table, leave, at_end, move_on, few, outcome_in, outcome}
-use Rattle.lines.specs.Reading.{code, plain, Ends}
+use Rattle.lines.specs.Reading.{items, code, plain, Ends, Read}
 use Rattle.lines.specs.Faults.{Begins, now_open, open_after, ShallowFrom, Shallow, some_number, stands, Clean, Fault, Refused}
 use Rattle.lines.proofs.Joins.{follow, sign_low}
 use Rattle.lines.proofs.Grammar.{line_runs, lines_sound, is_sign}
@@ -442,27 +445,41 @@ refused_code line refusal.Nesting p r = fault_only (parts line) refusal.Nesting 
 refused_code line refusal.Digits p r = fault_only (parts line) refusal.Digits r.1
 
 -- a line that is not plain is refused for its text alone
-pub text_only : (line : List ℕ) → plain line ≡ false → (e : Refusal) → Refused line e → refusal.Text ≡ e
+text_only : (line : List ℕ) → plain line ≡ false → (e : Refusal) → Refused line e → refusal.Text ≡ e
 text_only line p refusal.Text r = refl
 text_only line p refusal.Grammar r = absurd (clash (sym p ∙ r.0))
 text_only line p refusal.Nesting r = absurd (clash (sym p ∙ r.0))
 text_only line p refusal.Digits r = absurd (clash (sym p ∙ r.0))
 
 -- what the table says of a plain line
-pub settled : {X : Type 0} (line : List ℕ) (r : Result X Refusal) (P : X → Type 0) → plain line ≡ true → Ends State.start (parts line) r P → MatchResult r (λ x. P x × (plain line ≡ true) × Shallow (parts line)) (λ e. Refused line e)
-settled line (Ok x) P p h = (h.0, p, shallow_line (parts line) h.1)
-settled line (Err d) P p h = refused_by line d p (faulted (parts line) d h)
+pub settled : (line now : List ℕ) (r : Result Statement Refusal) (xs ys : List Raw) → plain line ≡ true → now ≡ line → ys ≡ xs → Ends State.start (parts line) r (λ s. Read (items now xs) (parts line) s) → MatchResult r (λ s. Read (items line ys) (parts line) s × (plain line ≡ true) × Shallow (parts line)) (λ e. Refused line e)
+settled line now (Ok x) xs ys p q e h = (subst (λ l. Read l (parts line) x) (λ i. items (q i) (sym e i)) h.0, p, shallow_line (parts line) h.1)
+settled line now (Err d) xs ys p q e h = refused_by line d p (faulted (parts line) d h)
 
-pub settled_only : {X : Type 0} (line : List ℕ) (r : Result X Refusal) (P : X → Type 0) → plain line ≡ true → Ends State.start (parts line) r P → (e : Refusal) → Refused line e → r ≡ Err e
-settled_only line (Ok x) P p h e f = absurd (omega (arith, h.1, refused_code line e p f, some_code e))
-settled_only line (Err d) P p h e f = ap Err (same_code d e (sym h ∙ refused_code line e p f))
+-- a line with few open parentheses is not refused
+unrefused : (line : List ℕ) (e : Refusal) → plain line ≡ true → Refused line e → (s : Stated) → Line (parts line) s → Shallow (parts line) → ⊥
+unrefused line e p r s l w = omega (arith, refused_code line e p r, line_shallow (parts line) s l w, some_code e)
 
--- a line of the grammar with few open parentheses is not refused
-pub settled_accepts : {X : Type 0} (line : List ℕ) (r : Result X Refusal) (P : X → Type 0) → Ends State.start (parts line) r P → (s : Stated) → Line (parts line) s → Shallow (parts line) → is_ok r ≡ true
-settled_accepts line (Ok x) P h s l w = refl
-settled_accepts line (Err d) P h s l w = absurd (omega (arith, h, line_shallow (parts line) s l w, some_code d))
+pub accepted : (line : List ℕ) (r : Result Statement Refusal) (P : Statement → Type 0) → MatchResult r P (λ e. Refused line e) → (s : Stated) → plain line ≡ true → Line (parts line) s → Shallow (parts line) → is_ok r ≡ true
+accepted line (Ok x) P h s p l w = refl
+accepted line (Err d) P h s p l w = absurd (unrefused line d p h s l w)
 
--- what a refusal says, whatever else was to be read
-pub still_refused : {X Y : Type 0} (r : Result X Y) (P P' : X → Type 0) (Q : Y → Type 0) → is_err r ≡ true → MatchResult r P Q → MatchResult r P' Q
-still_refused (Ok x) P P' Q e h = absurd (clash e)
-still_refused (Err d) P P' Q e h = h
+-- a line has one refusal
+one_refusal : (line : List ℕ) (d e : Refusal) → Refused line d → Refused line e → d ≡ e
+one_refusal line refusal.Text e r f = text_only line r e f
+one_refusal line refusal.Grammar e r f = same_code refusal.Grammar e (sym (refused_code line refusal.Grammar r.0 r) ∙ refused_code line e r.0 f)
+one_refusal line refusal.Nesting e r f = same_code refusal.Nesting e (sym (refused_code line refusal.Nesting r.0 r) ∙ refused_code line e r.0 f)
+one_refusal line refusal.Digits e r f = same_code refusal.Digits e (sym (refused_code line refusal.Digits r.0 r) ∙ refused_code line e r.0 f)
+
+-- what is read is a line
+stated : (steps : List Item) (ts : List Tok) (x : Statement) → Read steps ts x → (s : Stated) × Line ts s
+stated steps ts st.Blank r = (_, r.0)
+stated steps ts (st.Entry n u) r = (_, r.0)
+stated steps ts (st.Line n) r = (_, r.1)
+stated steps ts (st.Rule n root split) r = (_, r.2)
+
+pub refused_once : (line : List ℕ) (steps : List Item) (r : Result Statement Refusal) → MatchResult r (λ s. Read steps (parts line) s × (plain line ≡ true) × Shallow (parts line)) (λ e. Refused line e) → (e : Refusal) → Refused line e → r ≡ Err e
+refused_once line steps (Ok x) h e f =
+    let l = stated steps (parts line) x h.0 in
+    absurd (unrefused line e h.1 f l.0 l.1 h.2)
+refused_once line steps (Err d) h e f = ap Err (one_refusal line d e h f)

@@ -1,9 +1,13 @@
 -- How the readings of parts join to the reading of a whole, and how the refusal of a part is that of the whole.
-use Rattle.std.proofs.Common.{◌≡◌, ℕ, suc, ◌+◌, ◌<◌, ◌≤◌, Bool, true, false, cond, ◌||◌, eqb, List, [], ◌∷◌, ◌++◌, length, ℤ, IsErrAnd, Ok, Err, Result, sym, refl, ap, ◌∙◌, subst, append_assoc, arith, le-ltb, lt-ltb, ne_eqb, MatchResult}
+use Rattle.std.proofs.Common.{◌≡◌, ℕ, ◌-◌, ◌<◌, ◌≤◌, Bool, true, false, cond, ◌||◌, eqb, List, [], ◌∷◌, ◌++◌, length, ℤ, IsErrAnd, Ok, Err, Result, sym, refl, ap, ◌∙◌, subst, append_assoc, arith, ne_eqb, vec_items, MatchResult}
 use borrow.Author.Tests.{clash}
 use Rattle.std.proofs.lemmas.List.{map_push}
+use Rattle.std.proofs.lemmas.Result.{MatchResult-weaker}
 use Rattle.lines.specs.declared.reader.Op.{Op}
+use Rattle.lines.specs.declared.reader.Rank.{Rank}
+use Rattle.lines.specs.declared.reader.Rank.TheVariants as rank
 use Rattle.lines.specs.declared.reader.Raw.{Raw}
+use Rattle.lines.specs.declared.reader.Reader.{Reader}
 use Rattle.lines.specs.declared.refusal.Refusal.{Refusal}
 use Rattle.lines.specs.declared.refusal.Refusal.TheVariants as refusal
 use Rattle.lines.specs.declared.token.Sign.{Sign}
@@ -14,7 +18,7 @@ use Rattle.lines.specs.Tokens.{Tok, up_to}
 use Rattle.lines.specs.Words.{word_of}
 use Rattle.lines.specs.Grammar.{Tree, Additive, Multiplicative, Function, Sum, Product, Factor, Item, postfix}
 use Rattle.lines.specs.Expected.{Kind, Paren, Side, State, Move, kind_of, word_kind, sign_number, kind_number, same, among, table, leave, side_end, at_end, move_on, outcome_in, few, outcome}
-use Rattle.lines.specs.Reading.{item, items, code, is_one, factors, adds, joins, begins, Reads, Refuses}
+use Rattle.lines.specs.Reading.{item, items, is_one, joins, begins, Reads, Refuses, Operand, Joined, rank_signs, Binds, tight, ahead, written, Takes, Formula}
 
 -- the rest of a line after a move
 abbrev pub then : (ℕ → Bool) → List Tok → Move → ℕ
@@ -162,66 +166,85 @@ unended side ps x m e a ts j c =
     joined_off side ps t us (ap (begins joins) (sym q) ∙ j) (subst (λ rows. Off rows (kind_of t)) (sym e) (not_sign x t (λ r. c us (q ∙ ap (λ y. y ∷ us) r)), tt))
     )
 
--- nor the end
-pub unfinished : (side : Side) → leave [] side ≡ [] → (ts : List Tok) → begins joins ts ≡ false → (ts ≡ [] → ⊥) → outcome (State.operator side []) ts ≡ 2
-unfolding Off
-unfinished side e [] j c = absurd (c refl)
-unfinished side e (t ∷ ts) j c = follow few (State.operator side []) t ts _ (missed (table (State.operator side [])) (kind_of t) (joined_off side [] t ts j (subst (λ rows. Off rows (kind_of t)) (sym e) tt)))
-
 -- signs of one rank
 
-pub sum_sign : {s : Sign} {o : Op} → Additive s o → (side : Side) (ps : List Paren) (us : List Tok) → outcome (State.operator side ps) (Tok.sign s ∷ us) ≡ outcome (State.operand side ps) us
+sum_sign : {s : Sign} {o : Op} → Additive s o → (side : Side) (ps : List Paren) (us : List Tok) → outcome (State.operator side ps) (Tok.sign s ∷ us) ≡ outcome (State.operand side ps) us
 sum_sign Additive.plus side ps us = refl
 sum_sign Additive.minus side ps us = refl
 
-pub product_sign : {s : Sign} {o : Op} → Multiplicative s o → (side : Side) (ps : List Paren) (us : List Tok) → outcome (State.operator side ps) (Tok.sign s ∷ us) ≡ outcome (State.operand side ps) us
+product_sign : {s : Sign} {o : Op} → Multiplicative s o → (side : Side) (ps : List Paren) (us : List Tok) → outcome (State.operator side ps) (Tok.sign s ∷ us) ≡ outcome (State.operand side ps) us
 product_sign Multiplicative.times side ps us = refl
 product_sign Multiplicative.over side ps us = refl
+
+rank_sign : (k : Rank) (s : Sign) (o : Op) → Binds k s o → (side : Side) (ps : List Paren) (us : List Tok) → outcome (State.operator side ps) (Tok.sign s ∷ us) ≡ outcome (State.operand side ps) us
+rank_sign rank.Sum s o a = sum_sign a
+rank_sign rank.Product s o a = product_sign a
+
+lone : (k : Rank) (ts us : List Tok) (t : Tree) → Operand k ts us t → Joined k ts us t
+lone rank.Sum ts us t p = Sum.product p
+lone rank.Product ts us t p = Product.factor p
+
+link : (k : Rank) (ts us vs : List Tok) (t u : Tree) (s : Sign) (o : Op) → Joined k ts (Tok.sign s ∷ us) t → Binds k s o → Operand k us vs u → Joined k ts vs (Tree.join o t u)
+link rank.Sum ts us vs t u s o r a p = Sum.add r a p
+link rank.Product ts us vs t u s o r a p = Product.multiply r a p
 
 join_steps : (b x y : List Item) (o : Op) (m n z : List Item) → m ≡ b ++ x → n ≡ m ++ y → z ≡ n ++ Item.join o ∷ [] → z ≡ b ++ (x ++ (y ++ (Item.join o ∷ [])))
 join_steps b x y o m n z e₁ e₂ e₃ =
     e₃ ∙ ap (λ l. l ++ Item.join o ∷ []) (e₂ ∙ ap (λ l. l ++ y) e₁) ∙ append_assoc (b ++ x) y (Item.join o ∷ []) ∙ append_assoc b x (y ++ (Item.join o ∷ []))
 
-module _ {left : ℕ} {from tail us rest : List Tok} {b m n z : List Item} where
-  pub sum_more : {s : Sign} {o : Op} → Reads Sum factors left from tail b m → tail ≡ Tok.sign s ∷ us → Additive s o → Reads Product factors left us rest m n → z ≡ n ++ Item.join o ∷ [] → Reads Sum factors left from rest b z
-  sum_more {s} {o} r e a p f =
-      record {
-        tree = Tree.join o r.tree p.tree;
-        reading = Sum.add (subst (λ ts. Sum from ts r.tree) e r.reading) a p.reading;
-        stops = p.stops;
-        steps = join_steps b (postfix r.tree) (postfix p.tree) o m n z r.steps p.steps f;
-        goes = λ side ps h. r.goes side ps h ∙ ap (outcome (State.operator side ps)) e ∙ sum_sign a side ps us ∙ p.goes side ps h;
-      }
+pub joined_first : (k : Rank) {left : ℕ} {from rest : List Tok} {b n : List Item} → Reads (Operand k) (tight k) left from rest b n → Reads (Joined k) (tight k) left from rest b n
+joined_first k {from = from} {rest = rest} r = record { tree = r.tree; reading = lone k from rest r.tree r.reading; stops = r.stops; steps = r.steps; goes = r.goes }
 
-  pub product_more : {s : Sign} {o : Op} → Reads Product [] left from tail b m → tail ≡ Tok.sign s ∷ us → Multiplicative s o → Reads Factor [] left us rest m n → z ≡ n ++ Item.join o ∷ [] → Reads Product [] left from rest b z
-  product_more {s} {o} r e a p f =
-      record {
-        tree = Tree.join o r.tree p.tree;
-        reading = Product.multiply (subst (λ ts. Product from ts r.tree) e r.reading) a p.reading;
-        stops = p.stops;
-        steps = join_steps b (postfix r.tree) (postfix p.tree) o m n z r.steps p.steps f;
-        goes = λ side ps h. r.goes side ps h ∙ ap (outcome (State.operator side ps)) e ∙ product_sign a side ps us ∙ p.goes side ps h;
-      }
+pub joined_more : (k : Rank) {left : ℕ} {from tail us rest : List Tok} {b m n z : List Item} {s : Sign} (o : Op) → Reads (Joined k) (tight k) left from tail b m → tail ≡ Tok.sign s ∷ us → Binds k s o → Reads (Operand k) (tight k) left us rest m n → z ≡ n ++ Item.join o ∷ [] → Reads (Joined k) (tight k) left from rest b z
+joined_more k {from = from} {us = us} {rest = rest} {b = b} {m = m} {n = n} {z = z} {s = s} o r e a p f =
+    record {
+      tree = Tree.join o r.tree p.tree;
+      reading = link k from us rest r.tree p.tree s o (subst (λ ts. Joined k from ts r.tree) e r.reading) a p.reading;
+      stops = p.stops;
+      steps = join_steps b (postfix r.tree) (postfix p.tree) o m n z r.steps p.steps f;
+      goes = λ side ps h. r.goes side ps h ∙ ap (outcome (State.operator side ps)) e ∙ rank_sign k s o a side ps us ∙ p.goes side ps h;
+    }
 
-pub sum_refused : {left : ℕ} {from tail us : List Tok} {b m : List Item} {s : Sign} {o : Op} (e : Refusal) → Reads Sum factors left from tail b m → tail ≡ Tok.sign s ∷ us → Additive s o → Refuses left us e → Refuses left from e
-sum_refused {us = us} e r q a f side ps h = r.goes side ps h ∙ ap (outcome (State.operator side ps)) q ∙ sum_sign a side ps us ∙ f side ps h
+pub joined_refused : (k : Rank) {left : ℕ} {from tail us : List Tok} {b m : List Item} {s : Sign} (o : Op) (e : Refusal) → Reads (Joined k) (tight k) left from tail b m → tail ≡ Tok.sign s ∷ us → Binds k s o → Refuses left us e → Refuses left from e
+joined_refused k {us = us} {s = s} o e r q a f side ps h = r.goes side ps h ∙ ap (outcome (State.operator side ps)) q ∙ rank_sign k s o a side ps us ∙ f side ps h
 
-pub product_refused : {left : ℕ} {from tail us : List Tok} {b m : List Item} {s : Sign} {o : Op} (e : Refusal) → Reads Product [] left from tail b m → tail ≡ Tok.sign s ∷ us → Multiplicative s o → Refuses left us e → Refuses left from e
-product_refused {us = us} e r q a f side ps h = r.goes side ps h ∙ ap (outcome (State.operator side ps)) q ∙ product_sign a side ps us ∙ f side ps h
+one_of_both : (s : Sign) (ss rs : List Sign) → is_one s ss ≡ false → is_one s rs ≡ false → is_one s (ss ++ rs) ≡ false
+one_of_both s [] rs e f = f
+one_of_both s (x ∷ ss) rs e f = ap (λ p. p || is_one s (ss ++ rs)) (or_left (eqb (sign_number s) (sign_number x)) (is_one s ss) e) ∙ one_of_both s ss rs (or_right (eqb (sign_number s) (sign_number x)) (is_one s ss) e) f
 
-pub sum_first : {left : ℕ} {from rest : List Tok} {b n : List Item} → Reads Product factors left from rest b n → Reads Sum factors left from rest b n
-sum_first r = record { tree = r.tree; reading = Sum.product r.reading; stops = r.stops; steps = r.steps; goes = r.goes }
+-- where neither of two lists of signs goes on, both together do not
+neither : (ss rs : List Sign) (ts : List Tok) → begins ss ts ≡ false → begins rs ts ≡ false → begins (ss ++ rs) ts ≡ false
+neither ss rs [] f a = refl
+neither ss rs (Tok.word w ∷ ts) f a = refl
+neither ss rs (Tok.number n u ∷ ts) f a = refl
+neither ss rs (Tok.malformed ∷ ts) f a = refl
+neither ss rs (Tok.sign s ∷ ts) f a = one_of_both s ss rs f a
+neither ss rs (Tok.other ∷ ts) f a = refl
+neither ss rs (Tok.ends ∷ ts) f a = refl
 
-pub product_first : {left : ℕ} {from rest : List Tok} {b n : List Item} → Reads Factor [] left from rest b n → Reads Product [] left from rest b n
-product_first r = record { tree = r.tree; reading = Product.factor r.reading; stops = r.stops; steps = r.steps; goes = r.goes }
+pub joined_all : (k : Rank) {left : ℕ} {from rest : List Tok} {b n : List Item} → Reads (Joined k) (tight k) left from rest b n → begins (rank_signs k) rest ≡ false → Reads (Joined k) (rank_signs k ++ tight k) left from rest b n
+joined_all k {rest = rest} r e = record { tree = r.tree; reading = r.reading; stops = neither (rank_signs k) (tight k) rest e r.stops; steps = r.steps; goes = r.goes }
 
-pub stopped : {R : List Tok → List Tok → Tree → Type 0} {on off : List Sign} {left : ℕ} {from rest : List Tok} {b n : List Item} → Reads R on left from rest b n → begins off rest ≡ false → Reads R off left from rest b n
-stopped r e = record { tree = r.tree; reading = r.reading; stops = e; steps = r.steps; goes = r.goes }
+-- the steps of a reading, from the steps before parts that write none to the steps after such parts
+pub relaid : {R : List Tok → List Tok → Tree → Type 0} {on : List Sign} {left : ℕ} {from rest : List Tok} {b m n z : List Item} → Reads R on left from rest m n → m ≡ b → z ≡ n → Reads R on left from rest b z
+relaid r e f = record { tree = r.tree; reading = r.reading; stops = r.stops; steps = f ∙ r.steps ∙ ap (λ l. l ++ postfix r.tree) e; goes = r.goes }
+
+pub unwritten : {before after : Reader} → Takes before after → written after ≡ written before
+unwritten t = λ i. items (t.keeps.0 i) (vec_items (t.steps i).raw)
+
+-- a factor that begins with a word
+pub after_word : (left : ℕ) {before mid : Reader} (after : Reader) {X : Type 0} (r : Result X Refusal) {w : List ℕ} → ahead before ≡ Tok.word w ∷ ahead mid → Takes before mid → Formula Factor [] left (Tok.word w ∷ ahead mid) r mid after → Formula Factor [] left (ahead before) r before after
+after_word left {before} after r e t h =
+    subst (λ from. Formula Factor [] left from r before after) (sym e) (MatchResult-weaker r h (λ _ p. relaid p (unwritten t) refl) (λ _ p. p))
 
 -- single parts
 
 pub one_step : (line : List ℕ) (before after : List Raw) (r : Raw) → after ≡ before ++ r ∷ [] → items line after ≡ items line before ++ item line r ∷ []
 one_step line before after r e = ap (items line) e ∙ map_push (item line) before r
+
+-- the same after parts that write none
+pub late_step : {before mid : Reader} {after : List Raw} (r : Raw) → Takes before mid → after ≡ vec_items mid.steps.now.raw ++ r ∷ [] → items mid.line.now after ≡ written before ++ item mid.line.now r ∷ []
+late_step {mid = mid} {after = after} r t e = one_step mid.line.now _ after r e ∙ ap (λ l. l ++ item mid.line.now r ∷ []) (unwritten t)
 
 pub reads_number : {left : ℕ} {from rest : List Tok} {b z : List Item} {x : ℕ} {u : ℤ × ℤ} → from ≡ Tok.number x u ∷ rest → z ≡ b ++ Item.number x u ∷ [] → Reads Factor [] left from rest b z
 reads_number {left} {from} {rest} {b} {z} {x} {u} e f =
@@ -243,37 +266,20 @@ reads_name {left} {from} {rest} {b} {z} {w} e is f =
       goes = λ side ps h. ap (outcome (State.operand side ps)) e ∙ by_word few (State.operand side ps) w rest is;
     }
 
--- parentheses
+-- parentheses, inside of which one less may open
 
-enters : (k : Paren) (side : Side) (ps : List Paren) (ts : List Tok) → length ps < 16 → then few ts (Move.enter k side ps) ≡ outcome (State.operand side (k ∷ ps)) ts
-enters k side ps ts h = ap (λ t. cond t (outcome (State.operand side (k ∷ ps)) ts) 3) (lt-ltb (length ps) 16 h)
+pub reads_group : {left : ℕ} {ts tail rest : List Tok} {b n : List Item} → (left ≡ 0 → ⊥) → Reads Sum joins (left - 1) ts tail b n → tail ≡ Tok.sign signs.Close ∷ rest → Reads Factor [] left (Tok.sign signs.Open ∷ ts) rest b n
+reads_group {ts = ts} {rest = rest} some r e =
+    record {
+      tree = r.tree;
+      reading = Factor.group (subst (λ us. Sum ts us r.tree) e r.reading);
+      stops = none_begins rest;
+      steps = r.steps;
+      goes = λ side ps h. grind (arith, r.goes side (Paren.group ∷ ps));
+    }
 
-nested : (k : Paren) (side : Side) (ps : List Paren) (ts : List Tok) → 16 ≤ length ps → then few ts (Move.enter k side ps) ≡ 3
-nested k side ps ts h = ap (λ t. cond t (outcome (State.operand side (k ∷ ps)) ts) 3) (le-ltb (length ps) 16 h)
-
-module _ {left k : ℕ} (one_less : suc k ≡ left) where
-  -- inside a parenthesis one less may open
-  deeper : (p : Paren) (ps : List Paren) → length ps + left ≡ 16 → length (p ∷ ps) + k ≡ 16
-  deeper p ps h = omega (arith, h, one_less)
-
-  shallow : (ps : List Paren) → length ps + left ≡ 16 → length ps < 16
-  shallow ps h = omega (arith, h, one_less)
-
-  grouped : (ts : List Tok) (side : Side) (ps : List Paren) → length ps + left ≡ 16 → outcome (State.operand side ps) (Tok.sign signs.Open ∷ ts) ≡ outcome (State.operand side (Paren.group ∷ ps)) ts
-  grouped ts side ps h = follow few (State.operand side ps) (Tok.sign signs.Open) ts _ refl ∙ enters Paren.group side ps ts (shallow ps h)
-
-  pub reads_group : {ts tail rest : List Tok} {b n : List Item} → Reads Sum joins k ts tail b n → tail ≡ Tok.sign signs.Close ∷ rest → Reads Factor [] left (Tok.sign signs.Open ∷ ts) rest b n
-  reads_group {ts} {tail} {rest} r e =
-      record {
-        tree = r.tree;
-        reading = Factor.group (subst (λ us. Sum ts us r.tree) e r.reading);
-        stops = none_begins rest;
-        steps = r.steps;
-        goes = λ side ps h. grouped ts side ps h ∙ r.goes side (Paren.group ∷ ps) (deeper Paren.group ps h) ∙ ap (outcome (State.operator side (Paren.group ∷ ps))) e;
-      }
-
-  pub group_unclosed : {ts tail : List Tok} {b n : List Item} (e : Refusal) → e ≡ refusal.Grammar → Reads Sum joins k ts tail b n → ((us : List Tok) → tail ≡ Tok.sign signs.Close ∷ us → ⊥) → Refuses left (Tok.sign signs.Open ∷ ts) e
-  group_unclosed {ts} {tail} e g r c side ps h = grouped ts side ps h ∙ r.goes side (Paren.group ∷ ps) (deeper Paren.group ps h) ∙ unended side (Paren.group ∷ ps) signs.Close _ refl refl tail r.stops c ∙ ap code (sym g)
+pub group_unclosed : {left : ℕ} {ts tail : List Tok} {b n : List Item} (e : Refusal) → (left ≡ 0 → ⊥) → Reads Sum joins (left - 1) ts tail b n → e ≡ refusal.Grammar → ((us : List Tok) → tail ≡ Tok.sign signs.Close ∷ us → ⊥) → Refuses left (Tok.sign signs.Open ∷ ts) e
+group_unclosed {tail = tail} e some r g c = λ side ps h. grind (arith, r.goes side (Paren.group ∷ ps), unended side (Paren.group ∷ ps) signs.Close _ refl refl tail r.stops c)
 
 -- min and max
 
@@ -282,75 +288,24 @@ function_kind Function.least = refl
 function_kind Function.greatest = refl
 
 module _ (w : List ℕ) {o : Op} (f : Function (word_of w) o) where
-  called : (ts : List Tok) (side : Side) (ps : List Paren) → outcome (State.operand side ps) (Tok.word w ∷ ts) ≡ outcome (State.opening Paren.first side ps) ts
+  pub called : (ts : List Tok) (side : Side) (ps : List Paren) → outcome (State.operand side ps) (Tok.word w ∷ ts) ≡ outcome (State.opening Paren.first side ps) ts
   called ts side ps = follow few (State.operand side ps) (Tok.word w) ts _ (ap (move_on (State.operand side ps)) (function_kind f))
 
-  pub pair_unopened : (left : ℕ) (ts : List Tok) (e : Refusal) → e ≡ refusal.Grammar → ((us : List Tok) → ts ≡ Tok.sign signs.Open ∷ us → ⊥) → Refuses left (Tok.word w ∷ ts) e
-  pair_unopened left ts e g c side ps h = called ts side ps ∙ lone_sign (State.opening Paren.first side ps) signs.Open _ refl refl ts c ∙ ap code (sym g)
-
-  pub pair_nested : (left : ℕ) (ts us : List Tok) → ts ≡ Tok.sign signs.Open ∷ us → left ≡ 0 → Refuses left (Tok.word w ∷ ts) refusal.Nesting
-  pair_nested left ts us e z side ps h =
-      called ts side ps ∙ ap (outcome (State.opening Paren.first side ps)) e ∙ follow few (State.opening Paren.first side ps) (Tok.sign signs.Open) us _ refl ∙ nested Paren.first side ps us (omega (arith, h, z))
-
-  module _ {left k : ℕ} (one_less : suc k ≡ left) {ts us : List Tok} (opens : ts ≡ Tok.sign signs.Open ∷ us) where
-    inside : (side : Side) (ps : List Paren) → length ps + left ≡ 16 → outcome (State.operand side ps) (Tok.word w ∷ ts) ≡ outcome (State.operand side (Paren.first ∷ ps)) us
-    inside side ps h =
-        called ts side ps ∙ ap (outcome (State.opening Paren.first side ps)) opens ∙ follow few (State.opening Paren.first side ps) (Tok.sign signs.Open) us _ refl ∙ enters Paren.first side ps us (shallow one_less ps h)
-
-    pub pair_first_refused : (e : Refusal) → Refuses k us e → Refuses left (Tok.word w ∷ ts) e
-    pair_first_refused e r side ps h = inside side ps h ∙ r side (Paren.first ∷ ps) (deeper one_less Paren.first ps h)
-
-    module _ {tail : List Tok} {b m : List Item} (first : Reads Sum joins k us tail b m) where
-      pub pair_uncut : (e : Refusal) → e ≡ refusal.Grammar → ((vs : List Tok) → tail ≡ Tok.sign signs.Comma ∷ vs → ⊥) → Refuses left (Tok.word w ∷ ts) e
-      pair_uncut e g c side ps h = inside side ps h ∙ first.goes side (Paren.first ∷ ps) (deeper one_less Paren.first ps h) ∙ unended side (Paren.first ∷ ps) signs.Comma _ refl refl tail first.stops c ∙ ap code (sym g)
-
-      module _ {vs : List Tok} (comma : tail ≡ Tok.sign signs.Comma ∷ vs) where
-        second : (side : Side) (ps : List Paren) → length ps + left ≡ 16 → outcome (State.operand side ps) (Tok.word w ∷ ts) ≡ outcome (State.operand side (Paren.second ∷ ps)) vs
-        second side ps h = inside side ps h ∙ first.goes side (Paren.first ∷ ps) (deeper one_less Paren.first ps h) ∙ ap (outcome (State.operator side (Paren.first ∷ ps))) comma
-
-        pub pair_second_refused : (e : Refusal) → Refuses k vs e → Refuses left (Tok.word w ∷ ts) e
-        pair_second_refused e r side ps h = second side ps h ∙ r side (Paren.second ∷ ps) (deeper one_less Paren.second ps h)
-
-        module _ {tail₂ : List Tok} {n : List Item} (last : Reads Sum joins k vs tail₂ m n) where
-          pub pair_unclosed : (e : Refusal) → e ≡ refusal.Grammar → ((xs : List Tok) → tail₂ ≡ Tok.sign signs.Close ∷ xs → ⊥) → Refuses left (Tok.word w ∷ ts) e
-          pair_unclosed e g c side ps h = second side ps h ∙ last.goes side (Paren.second ∷ ps) (deeper one_less Paren.second ps h) ∙ unended side (Paren.second ∷ ps) signs.Close _ refl refl tail₂ last.stops c ∙ ap code (sym g)
-
-          pub reads_pair : {rest : List Tok} {z : List Item} → tail₂ ≡ Tok.sign signs.Close ∷ rest → z ≡ n ++ Item.join o ∷ [] → Reads Factor [] left (Tok.word w ∷ ts) rest b z
-          reads_pair {rest} {z} close e =
-              record {
-                tree = Tree.join o first.tree last.tree;
-                reading = subst (λ xs. Factor (Tok.word w ∷ xs) rest (Tree.join o first.tree last.tree)) (sym opens) (Factor.pair f (subst (λ xs. Sum us xs first.tree) comma first.reading) (subst (λ xs. Sum vs xs last.tree) close last.reading));
-                stops = none_begins rest;
-                steps = join_steps b (postfix first.tree) (postfix last.tree) o m n z first.steps last.steps e;
-                goes = λ side ps h. second side ps h ∙ last.goes side (Paren.second ∷ ps) (deeper one_less Paren.second ps h) ∙ ap (outcome (State.operator side (Paren.second ∷ ps))) close;
-              }
-
--- where neither rank of signs goes on, no sign does
-pub neither : (ts : List Tok) → begins factors ts ≡ false → begins adds ts ≡ false → begins joins ts ≡ false
-neither [] f a = refl
-neither (Tok.word w ∷ ts) f a = refl
-neither (Tok.number n u ∷ ts) f a = refl
-neither (Tok.malformed ∷ ts) f a = refl
-neither (Tok.sign s ∷ ts) f a = go (eqb (sign_number s) 0) (eqb (sign_number s) 1) a
-  where
-    go : (p q : Bool) → (p || (q || false)) ≡ false → (p || (q || is_one s factors)) ≡ false
-    go true q e = e
-    go false true e = e
-    go false false e = f
-neither (Tok.other ∷ ts) f a = refl
-neither (Tok.ends ∷ ts) f a = refl
+  pub reads_pair : {left : ℕ} {ts us tail vs tail₂ rest : List Tok} {b m n z : List Item} → (left ≡ 0 → ⊥) → ts ≡ Tok.sign signs.Open ∷ us → Reads Sum joins (left - 1) us tail b m → tail ≡ Tok.sign signs.Comma ∷ vs → Reads Sum joins (left - 1) vs tail₂ m n → tail₂ ≡ Tok.sign signs.Close ∷ rest → z ≡ n ++ Item.join o ∷ [] → Reads Factor [] left (Tok.word w ∷ ts) rest b z
+  reads_pair {us = us} {vs = vs} {rest = rest} {b = b} {m = m} {n = n} {z = z} some opens first comma last close e =
+      record {
+        tree = Tree.join o first.tree last.tree;
+        reading = subst (λ xs. Factor (Tok.word w ∷ xs) rest (Tree.join o first.tree last.tree)) (sym opens) (Factor.pair f (subst (λ xs. Sum us xs first.tree) comma first.reading) (subst (λ xs. Sum vs xs last.tree) close last.reading));
+        stops = none_begins rest;
+        steps = join_steps b (postfix first.tree) (postfix last.tree) o m n z first.steps last.steps e;
+        goes = λ side ps h. grind (arith, called, first.goes side (Paren.first ∷ ps), last.goes side (Paren.second ∷ ps));
+      }
 
 -- the exit of a `?`
 pub broken : {T : Type 0} (r : Result T Refusal) (e : Refusal) (P : T → Type 0) (Q : Refusal → Type 0) → IsErrAnd r (λ y. y ≡ e) → Q e → MatchResult r P Q
 broken (Ok x) e P Q h q = absurd h
 broken (Err y) e P Q h q = subst Q (sym h) q
 
--- the parts from a part that is known to be a sign, a word or a number
-pub at_sign : {from rest : List Tok} {x : Tok} {s : Sign} → from ≡ up_to x rest → x ≡ Tok.sign s → from ≡ Tok.sign s ∷ rest
-at_sign {rest = rest} e f = e ∙ ap (λ y. up_to y rest) f
-
-pub at_word : {from rest : List Tok} {x : Tok} {w : List ℕ} → from ≡ up_to x rest → x ≡ Tok.word w → from ≡ Tok.word w ∷ rest
-at_word {rest = rest} e f = e ∙ ap (λ y. up_to y rest) f
-
-pub at_number : {from rest : List Tok} {x : Tok} {n : ℕ} {u : ℤ × ℤ} → from ≡ up_to x rest → x ≡ Tok.number n u → from ≡ Tok.number n u ∷ rest
-at_number {rest = rest} e f = e ∙ ap (λ y. up_to y rest) f
+-- the parts from a part that is known
+pub at_part : {from : List Tok} (rest : List Tok) {x y : Tok} → from ≡ up_to x rest → x ≡ y → from ≡ up_to y rest
+at_part rest e f = e ∙ ap (λ t. up_to t rest) f

@@ -1,24 +1,15 @@
 -- How far the reader gets by one part.
 use Rattle.std.proofs.Common.{◌≡◌, ℕ, zero, suc, ◌+◌, ◌-◌, ◌<◌, ◌≤◌, Bool, true, false, cond, ◌||◌, eqb, List, [], ◌∷◌, length, get_or, take, drop, pos, Some, None, Option, unwrap_or, sym, refl, ap, ◌∙◌, arith, length-drop}
-use borrow.Author.Tests.{clash}
 use Rattle.std.specs.Char.{is_ascii_digit, is_ascii_alphabetic, is_ascii_alphanumeric}
 use Rattle.std.specs.Int.{is_in_range}
 use Rattle.std.specs.List.{prefix_len}
-use Rattle.std.proofs.lemmas.List.{drop-drop}
-use Rattle.lines.specs.declared.token.Class.TheVariants as class
+use Rattle.std.proofs.lemmas.Bool.Decides.{nat_tests}
 use Rattle.lines.specs.declared.token.Sign.{Sign}
 use Rattle.lines.specs.declared.token.Sign.TheVariants as signs
-use Rattle.lines.specs.Tokens.{Tok, least, run, sign_of, sign_tok, sign_width, well_formed, numeral_len, pointed, whole, decimals, thousandths, front_unit, unit_len, number_tok, number_width, part, width, unblank, front, after, up_to, parts_up, parts}
+use Rattle.lines.specs.Tokens.{Tok, least, is_blank, sign_of, sign_tok, sign_width, well_formed, numeral_len, pointed, whole, decimals, thousandths, front_unit, unit_len, number_tok, number_width, part, width, unblank, front, after, up_to, parts_up, parts}
 
 letter_alnum : (p q r : Bool) → (q || r) ≡ true → ((p || q) || r) ≡ true
-letter_alnum true true true e = refl
-letter_alnum true true false e = refl
-letter_alnum true false true e = refl
-letter_alnum true false false e = refl
-letter_alnum false true true e = refl
-letter_alnum false true false e = refl
-letter_alnum false false true e = refl
-letter_alnum false false false e = e
+letter_alnum p q r e = grind (arith, nat_tests)
 
 sign_least : (o : Option Sign) → least (sign_tok o) ≤ sign_width o
 sign_least None = omega arith
@@ -56,7 +47,7 @@ some_run p b bs e = go (p b) e
   where
     go : (t : Bool) → t ≡ true → 1 ≤ cond t (1 + prefix_len p bs) 0
     go true h = omega arith
-    go false h = absurd (clash h)
+    go false h = cc
 
 pub width_least : (bs : List ℕ) → least (part bs) ≤ width bs
 width_least [] = omega arith
@@ -66,53 +57,45 @@ width_least (b ∷ bs) = some (eqb (length (b ∷ bs)) 0) refl
     digits true e = number_least (b ∷ bs) (some_run is_ascii_digit b bs e)
     digits false e = sign_least (sign_of b (get_or (b ∷ bs) 1 0))
 
-    go : (t : Bool) → is_ascii_alphabetic b ≡ t → least (cond t (Tok.word (take (run class.Word (b ∷ bs)) (b ∷ bs))) (cond (is_ascii_digit b) (number_tok (b ∷ bs)) (sign_tok (sign_of b (get_or (b ∷ bs) 1 0))))) ≤ cond t (run class.Word (b ∷ bs)) (cond (is_ascii_digit b) (number_width (b ∷ bs)) (sign_width (sign_of b (get_or (b ∷ bs) 1 0))))
+    go : (t : Bool) → is_ascii_alphabetic b ≡ t → least (cond t (Tok.word (take (prefix_len is_ascii_alphanumeric (b ∷ bs)) (b ∷ bs))) (cond (is_ascii_digit b) (number_tok (b ∷ bs)) (sign_tok (sign_of b (get_or (b ∷ bs) 1 0))))) ≤ cond t (prefix_len is_ascii_alphanumeric (b ∷ bs)) (cond (is_ascii_digit b) (number_width (b ∷ bs)) (sign_width (sign_of b (get_or (b ∷ bs) 1 0))))
     go true e = some_run is_ascii_alphanumeric b bs (letter_alnum (is_in_range 48 57 b) (is_in_range 65 90 b) (is_in_range 97 122 b) e)
     go false e = digits (is_ascii_digit b) refl
 
-    some : (t : Bool) → eqb (length (b ∷ bs)) 0 ≡ t → least (cond t Tok.ends (cond (is_ascii_alphabetic b) (Tok.word (take (run class.Word (b ∷ bs)) (b ∷ bs))) (cond (is_ascii_digit b) (number_tok (b ∷ bs)) (sign_tok (sign_of b (get_or (b ∷ bs) 1 0)))))) ≤ cond t 0 (cond (is_ascii_alphabetic b) (run class.Word (b ∷ bs)) (cond (is_ascii_digit b) (number_width (b ∷ bs)) (sign_width (sign_of b (get_or (b ∷ bs) 1 0)))))
+    some : (t : Bool) → eqb (length (b ∷ bs)) 0 ≡ t → least (cond t Tok.ends (cond (is_ascii_alphabetic b) (Tok.word (take (prefix_len is_ascii_alphanumeric (b ∷ bs)) (b ∷ bs))) (cond (is_ascii_digit b) (number_tok (b ∷ bs)) (sign_tok (sign_of b (get_or (b ∷ bs) 1 0)))))) ≤ cond t 0 (cond (is_ascii_alphabetic b) (prefix_len is_ascii_alphanumeric (b ∷ bs)) (cond (is_ascii_digit b) (number_width (b ∷ bs)) (sign_width (sign_of b (get_or (b ∷ bs) 1 0)))))
     some true e = omega arith
     some false e = go (is_ascii_alphabetic b) refl
-
--- the place after a part, as what follows it
-pub next_rest : (line rest bytes : List ℕ) (at k n : ℕ) → rest ≡ drop at line → k ≡ run class.Blank rest → bytes ≡ drop k rest → n ≡ width bytes → drop (at + k + n) line ≡ after (drop at line)
-next_rest line rest bytes at k n e₁ e₂ e₃ e₄ =
-    sym (drop-drop n (at + k) line) ∙ ap (drop n) (sym (drop-drop k at line) ∙ ap (drop k) (sym e₁) ∙ sym e₃) ∙ ap (λ m. drop m bytes) e₄ ∙ ap (λ l. drop (width l) l) (e₃ ∙ ap (λ m. drop m rest) e₂ ∙ ap unblank e₁)
 
 -- what follows a part is shorter, but for the end
 follows : (bs : List ℕ) → 1 ≤ least (front bs) → length (after bs) < length bs
 follows bs h =
     let more : 1 ≤ width (unblank bs) = omega (arith, width_least (unblank bs)) in
-    go (unblank bs) more (length-drop (run class.Blank bs) bs)
+    go (unblank bs) more (length-drop (prefix_len is_blank bs) bs)
   where
-    go : (cs : List ℕ) → 1 ≤ width cs → length cs ≡ length bs - run class.Blank bs → length (drop (width cs) cs) < length bs
+    go : (cs : List ℕ) → 1 ≤ width cs → length cs ≡ length bs - prefix_len is_blank bs → length (drop (width cs) cs) < length bs
     go [] w e = absurd (omega (arith, w))
     go (c ∷ cs) w e = omega (arith, length-drop (width (c ∷ cs)) (c ∷ cs), w, e)
+
+-- what follows the end is in no list
+same_up : (t : Tok) (us vs : List Tok) → (1 ≤ least t → us ≡ vs) → up_to t us ≡ up_to t vs
+same_up (Tok.word w) us vs e = ap (λ ts. Tok.word w ∷ ts) (e (omega arith))
+same_up (Tok.number x u) us vs e = ap (λ ts. Tok.number x u ∷ ts) (e (omega arith))
+same_up Tok.malformed us vs e = ap (λ ts. Tok.malformed ∷ ts) (e (omega arith))
+same_up (Tok.sign s) us vs e = ap (λ ts. Tok.sign s ∷ ts) (e (omega arith))
+same_up Tok.other us vs e = ap (λ ts. Tok.other ∷ ts) (e (omega arith))
+same_up Tok.ends us vs e = refl
 
 -- the count of parts asked for does not matter once it is above the bytes
 enough : (m n : ℕ) (bs : List ℕ) → length bs < m → length bs < n → parts_up m bs ≡ parts_up n bs
 enough zero n bs h k = absurd (omega arith)
 enough (suc m) zero bs h k = absurd (omega arith)
 enough (suc m) (suc n) bs h k =
-    go (front bs) (λ more. enough m n (after bs) (omega (arith, follows bs more)) (omega (arith, follows bs more)))
-  where
-    go : (t : Tok) → (1 ≤ least t → parts_up m (after bs) ≡ parts_up n (after bs)) → up_to t (parts_up m (after bs)) ≡ up_to t (parts_up n (after bs))
-    go (Tok.word w) e = ap (λ ts. Tok.word w ∷ ts) (e (omega arith))
-    go (Tok.number x u) e = ap (λ ts. Tok.number x u ∷ ts) (e (omega arith))
-    go Tok.malformed e = ap (λ ts. Tok.malformed ∷ ts) (e (omega arith))
-    go (Tok.sign s) e = ap (λ ts. Tok.sign s ∷ ts) (e (omega arith))
-    go Tok.other e = ap (λ ts. Tok.other ∷ ts) (e (omega arith))
-    go Tok.ends e = refl
+    same_up (front bs) _ _ (λ more. enough m n (after bs) (omega (arith, follows bs more)) (omega (arith, follows bs more)))
 
 -- the parts are the first one and those of what follows
 pub parts_step : (bs : List ℕ) → parts bs ≡ up_to (front bs) (parts (after bs))
 unfolding parts
-parts_step bs = go (front bs) (λ more. enough (length bs) (suc (length (after bs))) (after bs) (follows bs more) (omega arith))
-  where
-    go : (t : Tok) → (1 ≤ least t → parts_up (length bs) (after bs) ≡ parts_up (suc (length (after bs))) (after bs)) → up_to t (parts_up (length bs) (after bs)) ≡ up_to t (parts_up (suc (length (after bs))) (after bs))
-    go (Tok.word w) e = ap (λ ts. Tok.word w ∷ ts) (e (omega arith))
-    go (Tok.number x u) e = ap (λ ts. Tok.number x u ∷ ts) (e (omega arith))
-    go Tok.malformed e = ap (λ ts. Tok.malformed ∷ ts) (e (omega arith))
-    go (Tok.sign s) e = ap (λ ts. Tok.sign s ∷ ts) (e (omega arith))
-    go Tok.other e = ap (λ ts. Tok.other ∷ ts) (e (omega arith))
-    go Tok.ends e = refl
+parts_step bs = same_up (front bs) _ _ (λ more. enough (length bs) (suc (length (after bs))) (after bs) (follows bs more) (omega arith))
+
+-- the same, at a place in a line
+pub parts_on : (line : List ℕ) (at to : ℕ) (t : Tok) → t ≡ front (drop at line) → drop to line ≡ after (drop at line) → parts (drop at line) ≡ up_to t (parts (drop to line))
+parts_on line at to t first rest = parts_step (drop at line) ∙ sym (λ i. up_to (first i) (parts (rest i)))

@@ -1,17 +1,23 @@
 -- What the functions of the reader promise.
-use Rattle.std.specs.Prelude.{◌≡◌, ℕ, ◌+◌, Bool, true, false, ◌&&◌, ◌||◌, List, [], ◌∷◌, ◌++◌, map, length, take, drop, Some, None, Option, Result, MatchResult, ◌==◌, nat_le}
+use Rattle.std.specs.Prelude.{◌≡◌, ℕ, ◌+◌, Bool, false, ◌&&◌, ◌||◌, List, [], ◌∷◌, ◌++◌, map, length, take, drop, Some, None, Option, Result, MatchResult, IfOk, ◌<◌, ◌≤◌, ◌==◌, nat_le, vec_items, vec_len}
+use Rattle.std.specs.List.{list_all}
 use Rattle.lines.specs.declared.reader.Op.{Op}
 use Rattle.lines.specs.declared.reader.Place.{Place}
+use Rattle.lines.specs.declared.reader.Rank.{Rank}
+use Rattle.lines.specs.declared.reader.Rank.TheVariants as rank
 use Rattle.lines.specs.declared.reader.Raw.{Raw}
 use Rattle.lines.specs.declared.reader.Raw.TheVariants as raw
+use Rattle.lines.specs.declared.reader.Reader.{Reader}
 use Rattle.lines.specs.declared.refusal.Refusal.{Refusal}
 use Rattle.lines.specs.declared.refusal.Refusal.TheVariants as refusal
 use Rattle.lines.specs.declared.token.Sign.{Sign}
 use Rattle.lines.specs.declared.token.Sign.TheVariants as signs
 use Rattle.lines.specs.declared.statement.Statement.{Statement}
 use Rattle.lines.specs.declared.statement.Statement.TheVariants as st
-use Rattle.lines.specs.Tokens.{Tok, up_to}
-use Rattle.lines.specs.Grammar.{Tree, Item, postfix, Stated, Line}
+use Rattle.lines.specs.Tokens.{Tok, up_to, parts}
+use Rattle.lines.specs.Grammar.{Tree, Additive, Multiplicative, Sum, Product, Factor, Item, postfix, Stated, Line}
+use Rattle.lines.specs.Words.{word_of}
+use Rattle.lines.specs.declared.word.Word.{Word}
 use Rattle.lines.specs.Expected.{Paren, Side, State, sign_number, outcome}
 
 -- the bytes at a place
@@ -74,21 +80,77 @@ pub record Reads (R : List Tok → List Tok → Tree → Type 0) (on : List Sign
 abbrev pub Refuses : ℕ → List Tok → Refusal → Type 0
 Refuses left from r = (side : Side) (ps : List Paren) → length ps + left ≡ 16 → outcome (State.operand side ps) from ≡ code r
 
--- the step of a sign that joins by A, if the part is one
-abbrev pub Joins : (Sign → Op → Type 0) → List Sign → Tok → Option Op → Type 0
-Joins A on t None = (ts : List Tok) → begins on (up_to t ts) ≡ false
-Joins A on t (Some o) = (s : Sign) × (t ≡ Tok.sign s) × A s o
+-- the grammar of what a rank joins, and of what it joins to
+abbrev pub Operand : Rank → List Tok → List Tok → Tree → Type 0
+Operand rank.Sum = Product
+Operand rank.Product = Factor
 
--- what was read, with its texts and steps, is what the parts ts state
-abbrev pub Read : List ℕ → List Item → List Tok → Statement → Type 0
-Read line steps ts st.Blank = Line ts Stated.blank × (steps ≡ [])
-Read line steps ts (st.Entry p u) = Line ts (Stated.entry (text_at line p) u) × (steps ≡ [])
-Read line steps ts (st.Line p) = (t : Tree) × Line ts (Stated.line (text_at line p) t) × (steps ≡ postfix t)
-Read line steps ts (st.Rule p root split) = (t : Tree) × (u : Tree) × Line ts (Stated.rule (text_at line p) root t u) × (steps ≡ postfix t ++ postfix u) × (split ≡ length (postfix t))
+abbrev pub Joined : Rank → List Tok → List Tok → Tree → Type 0
+Joined rank.Sum = Sum
+Joined rank.Product = Product
+
+-- the signs of a rank, and their steps
+abbrev pub rank_signs : Rank → List Sign
+rank_signs rank.Sum = adds
+rank_signs rank.Product = factors
+
+abbrev pub Binds : Rank → Sign → Op → Type 0
+Binds rank.Sum = Additive
+Binds rank.Product = Multiplicative
+
+-- the signs of the ranks that bind tighter
+abbrev pub tight : Rank → List Sign
+tight rank.Sum = factors
+tight rank.Product = []
+
+-- the step of a sign of the rank, if the part is one
+abbrev pub Joins : Rank → Tok → Option Op → Type 0
+Joins k t None = (ts : List Tok) → begins (rank_signs k) (up_to t ts) ≡ false
+Joins k t (Some o) = (s : Sign) × (t ≡ Tok.sign s) × Binds k s o
+
+-- what is left to read
+abbrev pub ahead : Reader → List Tok
+ahead r = parts (drop r.at r.line.now)
+
+-- the steps so far
+abbrev pub written : Reader → List Item
+written r = items r.line.now (vec_items r.steps.now.raw)
+
+-- the same line is read, into the same steps
+abbrev pub Keeps : Reader → Reader → Type 0
+Keeps before after = (after.line.now ≡ before.line.now) × (after.steps.ghost_name ≡ before.steps.ghost_name)
+
+-- the same, with no step written
+pub record Takes (before after : Reader) : Type 0 where
+  pub keeps : Keeps before after
+  pub steps : after.steps.now ≡ before.steps.now
+
+-- bytes were read, and no more steps written
+abbrev pub Moves : Reader → Reader → Type 0
+Moves before after = (before.at < after.at) × (vec_len after.steps.now.raw + before.at ≤ vec_len before.steps.now.raw + after.at)
+
+-- the same of a reading that may be refused
+abbrev pub Advances : {X : Type 0} → Result X Refusal → Reader → Reader → Type 0
+Advances r before after = Keeps before after × IfOk r (λ _. Moves before after)
+
+-- a formula was read from the parts `from` on, or none is there
+abbrev pub Formula : {X : Type 0} → (List Tok → List Tok → Tree → Type 0) → List Sign → ℕ → List Tok → Result X Refusal → Reader → Reader → Type 0
+Formula R on left from r before after = MatchResult r (λ _. Reads R on left from (ahead after) (written before) (written after)) (λ e. Refuses left from e)
+
+-- what was read, with its steps, is what the parts ts state
+abbrev pub Read : List Item → List Tok → Statement → Type 0
+Read steps ts st.Blank = Line ts Stated.blank × (steps ≡ [])
+Read steps ts (st.Entry name u) = Line ts (Stated.entry name.now u) × (steps ≡ [])
+Read steps ts (st.Line name) = (t : Tree) × Line ts (Stated.line name.now t) × (steps ≡ postfix t)
+Read steps ts (st.Rule name root split) = (t : Tree) × (u : Tree) × Line ts (Stated.rule name.now root t u) × (steps ≡ postfix t ++ postfix u) × (split ≡ length (postfix t))
 
 -- parts up to the end were read from a state on, with no refusal; or the refusal is given
 abbrev pub Ends : {X : Type 0} → State → List Tok → Result X Refusal → (X → Type 0) → Type 0
 Ends s ts r P = MatchResult r (λ x. P x × (outcome s ts ≡ 0)) (λ e. outcome s ts ≡ code e)
+
+-- what follows the word x was read from a state on, and is what the line states
+abbrev pub Follows : Word → State → Result Statement Refusal → Reader → Reader → Type 0
+Follows x s r before after = Ends s (ahead before) r (λ read. (k : List ℕ) → word_of k ≡ x → Read (written after) (Tok.word k ∷ ahead before) read)
 
 -- the refusal where a sum up to the end has to come, as the formula of a line and as the right side of a rule
 abbrev pub Last : List Tok → ℕ → Type 0
@@ -96,8 +158,7 @@ Last ts n = (outcome (State.operand Side.whole []) ts ≡ n) × (outcome (State.
 
 -- every byte is from hexadecimal 20 to 7e
 abbrev pub printable : List ℕ → Bool
-printable [] = true
-printable (b ∷ bs) = (nat_le 32 b && nat_le b 126) && printable bs
+printable bs = list_all (λ b. nat_le 32 b && nat_le b 126) bs
 
 -- at most 120 bytes, each from hexadecimal 20 to 7e
 abbrev pub plain : List ℕ → Bool

@@ -1,9 +1,7 @@
 -- The parts of a book line, from its bytes.
-use Rattle.std.specs.Prelude.{◌≡◌, ℕ, zero, suc, ◌+◌, ◌-◌, ◌*◌, ◌^◌, Bool, cond, ◌&&◌, List, [], ◌∷◌, length, take, drop, ℤ, pos, is_some, Some, None, Option, ◌==◌, nat_le, slice_index}
+use Rattle.std.specs.Prelude.{◌≡◌, ℕ, zero, suc, ◌+◌, ◌-◌, ◌*◌, ◌^◌, Bool, if◌then◌else◌, ◌&&◌, List, [], ◌∷◌, length, take, drop, ℤ, pos, is_some, Some, None, Option, ◌==◌, nat_le, slice_index}
 use Rattle.std.specs.Char.{is_ascii_digit, is_ascii_alphabetic, is_ascii_alphanumeric}
 use Rattle.std.specs.List.{prefix_len}
-use Rattle.lines.specs.declared.token.Class.{Class}
-use Rattle.lines.specs.declared.token.Class.TheVariants as class
 use Rattle.lines.specs.declared.token.Sign.{Sign}
 use Rattle.lines.specs.declared.token.Sign.TheVariants as signs
 use Rattle.lines.specs.declared.token.Token.{Token}
@@ -30,37 +28,41 @@ least (sign s) = 1
 least other = 1
 least ends = 0
 
--- a byte is of the class
-abbrev pub belongs? : Class → ℕ → Bool
-belongs? class.Blank b = b == 32
-belongs? class.Digit b = is_ascii_digit b
-belongs? class.Word b = is_ascii_alphanumeric b
-
--- how many bytes at the front belong to the class
-abbrev pub run : Class → List ℕ → ℕ
-run k bs = prefix_len (belongs? k) bs
+-- the blank is the space
+abbrev pub is_blank : ℕ → Bool
+is_blank b = b == 32
 
 -- the sign that b begins, where next is the byte after it
 abbrev pub sign_of : ℕ → ℕ → Option Sign
 sign_of b next =
-    cond (b == 43) (Some signs.Plus) (cond (b == 45) (Some signs.Minus) (cond (b == 42) (Some signs.Times) (cond (b == 47) (Some signs.Over) (cond (b == 40) (Some signs.Open) (cond (b == 41) (Some signs.Close) (cond (b == 44) (Some signs.Comma) (cond (b == 61) (Some signs.Equals) (cond (b == 58) (Some signs.Colon) (cond (b == 60 && next == 61) (Some signs.AtMost) None)))))))))
+    if b == 43 then Some signs.Plus
+    else (if b == 45 then Some signs.Minus
+    else (if b == 42 then Some signs.Times
+    else (if b == 47 then Some signs.Over
+    else (if b == 40 then Some signs.Open
+    else (if b == 41 then Some signs.Close
+    else (if b == 44 then Some signs.Comma
+    else (if b == 61 then Some signs.Equals
+    else (if b == 58 then Some signs.Colon
+    else (if b == 60 && next == 61 then Some signs.AtMost
+    else None)))))))))
 
 -- how many digits stand before the point, whether a point follows them, and how many digits follow it
 abbrev pub whole : List ℕ → ℕ
-whole bs = run class.Digit bs
+whole bs = prefix_len is_ascii_digit bs
 
 abbrev pub pointed : List ℕ → Bool
 pointed bs = slice_index bs (whole bs) == 46
 
 abbrev pub decimals : List ℕ → ℕ
-decimals bs = run class.Digit (drop (whole bs + 1) bs)
+decimals bs = prefix_len is_ascii_digit (drop (whole bs + 1) bs)
 
 -- the digits before the point, and those after it
 abbrev pub whole_digits : List ℕ → List ℕ
 whole_digits bs = take (whole bs) bs
 
 abbrev pub decimal_digits : List ℕ → List ℕ
-decimal_digits bs = cond (pointed bs) (take (decimals bs) (drop (whole bs + 1) bs)) []
+decimal_digits bs = if pointed bs then take (decimals bs) (drop (whole bs + 1) bs) else []
 
 -- the count of thousandths that the digits before and after a point write
 abbrev pub counted : List ℕ → List ℕ → ℕ
@@ -72,7 +74,7 @@ thousandths bs = counted (whole_digits bs) (decimal_digits bs)
 
 -- how many bytes the digits and their point have
 abbrev pub numeral_len : List ℕ → ℕ
-numeral_len bs = cond (pointed bs) (whole bs + 1 + decimals bs) (whole bs)
+numeral_len bs = if pointed bs then whole bs + 1 + decimals bs else whole bs
 
 -- at most 6 digits before the point, and 1 to 3 after it
 abbrev pub few_digits : ℕ → ℕ → Bool
@@ -80,27 +82,27 @@ few_digits whole decimals = nat_le whole 6 && (nat_le 1 decimals && nat_le decim
 
 -- the number at the front has few enough digits
 abbrev pub well_formed : List ℕ → Bool
-well_formed bs = cond (pointed bs) (few_digits (whole bs) (decimals bs)) (nat_le (whole bs) 6)
+well_formed bs = if pointed bs then few_digits (whole bs) (decimals bs) else nat_le (whole bs) 6
 
 -- the count of thousandths, if the digits are few enough
 abbrev pub count_of : List ℕ → Option ℕ
-count_of bs = cond (well_formed bs) (Some (thousandths bs)) None
+count_of bs = if well_formed bs then Some (thousandths bs) else None
 
 -- the unit of the word at the front, if it is a unit word
 abbrev pub front_unit : List ℕ → Option (ℤ × ℤ)
-front_unit bs = unit_of (take (run class.Word bs) bs)
+front_unit bs = unit_of (take (prefix_len is_ascii_alphanumeric bs) bs)
 
 -- a number with the unit word straight after it; without one the unit is (0, 0)
 abbrev pub number_tok : List ℕ → Tok
-number_tok bs = cond (well_formed bs) (number (thousandths bs) (unwrap_or (front_unit (drop (numeral_len bs) bs)) (pos 0, pos 0))) malformed
+number_tok bs = if well_formed bs then number (thousandths bs) (unwrap_or (front_unit (drop (numeral_len bs) bs)) (pos 0, pos 0)) else malformed
 
 -- how many bytes the unit word has
 abbrev pub unit_len : List ℕ → ℕ
-unit_len bs = cond (is_some (front_unit bs)) (run class.Word bs) 0
+unit_len bs = if is_some (front_unit bs) then prefix_len is_ascii_alphanumeric bs else 0
 
 -- how many bytes a number has with its unit word
 abbrev pub number_width : List ℕ → ℕ
-number_width bs = cond (well_formed bs) (numeral_len bs + unit_len (drop (numeral_len bs) bs)) (numeral_len bs)
+number_width bs = if well_formed bs then numeral_len bs + unit_len (drop (numeral_len bs) bs) else numeral_len bs
 
 -- a byte that begins no sign is a part too
 abbrev pub sign_tok : Option Sign → Tok
@@ -128,16 +130,22 @@ sign_width (Some s) = sign_len s
 -- the part at the front, where no blank stands
 abbrev pub part : List ℕ → Tok
 part bs =
-    cond (length bs == 0) ends (cond (is_ascii_alphabetic (slice_index bs 0)) (word (take (run class.Word bs) bs)) (cond (is_ascii_digit (slice_index bs 0)) (number_tok bs) (sign_tok (sign_of (slice_index bs 0) (slice_index bs 1)))))
+    if length bs == 0 then ends
+    else (if is_ascii_alphabetic (slice_index bs 0) then word (take (prefix_len is_ascii_alphanumeric bs) bs)
+    else (if is_ascii_digit (slice_index bs 0) then number_tok bs
+    else sign_tok (sign_of (slice_index bs 0) (slice_index bs 1))))
 
 -- how many bytes it has
 abbrev pub width : List ℕ → ℕ
 width bs =
-    cond (length bs == 0) 0 (cond (is_ascii_alphabetic (slice_index bs 0)) (run class.Word bs) (cond (is_ascii_digit (slice_index bs 0)) (number_width bs) (sign_width (sign_of (slice_index bs 0) (slice_index bs 1)))))
+    if length bs == 0 then 0
+    else (if is_ascii_alphabetic (slice_index bs 0) then prefix_len is_ascii_alphanumeric bs
+    else (if is_ascii_digit (slice_index bs 0) then number_width bs
+    else sign_width (sign_of (slice_index bs 0) (slice_index bs 1))))
 
 -- the bytes from the first that is no blank
 abbrev pub unblank : List ℕ → List ℕ
-unblank bs = drop (run class.Blank bs) bs
+unblank bs = drop (prefix_len is_blank bs) bs
 
 -- the first part after blanks, and the bytes after it
 abbrev pub front : List ℕ → Tok

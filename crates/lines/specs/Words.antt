@@ -1,18 +1,17 @@
 -- What each word of a book line is.
-use Rattle.std.specs.Prelude.{ℕ, cond, List, [], ◌∷◌, length, ℤ, pos, negsuc, Some, None, codes, Option, nat_le}
+use Rattle.std.specs.Prelude.{ℕ, if◌then◌else◌, List, [], ◌∷◌, length, ℤ, pos, negsuc, codes, Option, unwrap_or, option_map, nat_le}
+use Rattle.std.specs.Map.{lookup}
 use Rattle.std.specs.Str.{bytes_eq}
 use Rattle.lines.specs.declared.word.Word.{Word}
 use Rattle.lines.specs.declared.word.Word.TheVariants.{Entry, Line, Rule, Root, Min, Max, Unit, Name, Other}
 
--- what the first of the listed words that is w stands for, and otherwise `none`
-abbrev pub among : {X : Type 0} → List (List ℕ × X) → List ℕ → X → X
-among [] w none = none
-among (k ∷ ks) w none = cond (bytes_eq w k.0) k.1 (among ks w none)
-
 -- exponents of inch and of kip
+abbrev pub units : List (List ℕ × (ℤ × ℤ))
+units =
+    (codes "one", (pos 0, pos 0)) ∷ (codes "in", (pos 1, pos 0)) ∷ (codes "in2", (pos 2, pos 0)) ∷ (codes "kip", (pos 0, pos 1)) ∷ (codes "kipin", (pos 1, pos 1)) ∷ (codes "ksi", (negsuc 1, pos 1)) ∷ []
+
 abbrev pub unit_of : List ℕ → Option (ℤ × ℤ)
-unit_of w =
-    among ((codes "one", Some (pos 0, pos 0)) ∷ (codes "in", Some (pos 1, pos 0)) ∷ (codes "in2", Some (pos 2, pos 0)) ∷ (codes "kip", Some (pos 0, pos 1)) ∷ (codes "kipin", Some (pos 1, pos 1)) ∷ (codes "ksi", Some (negsuc 1, pos 1)) ∷ []) w None
+unit_of w = lookup (bytes_eq w) units
 
 -- the words that are no names, besides the units
 abbrev pub reserved : List (List ℕ × Word)
@@ -21,13 +20,8 @@ reserved =
 
 -- any word but a unit; a name has at most 16 letters and digits
 abbrev pub plain_word_of : List ℕ → Word
-plain_word_of w = among reserved w (cond (nat_le (length w) 16) Name Other)
+plain_word_of w = unwrap_or (lookup (bytes_eq w) reserved) (if nat_le (length w) 16 then Name else Other)
 
--- a unit word is that before all else
-abbrev pub unit_or : Option (ℤ × ℤ) → Word → Word
-unit_or None w = w
-unit_or (Some u) w = Unit u
-
--- what a word is
+-- what a word is; a unit word is that before all else
 abbrev pub word_of : List ℕ → Word
-word_of w = unit_or (unit_of w) (plain_word_of w)
+word_of w = unwrap_or (option_map Unit (unit_of w)) (plain_word_of w)

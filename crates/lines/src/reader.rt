@@ -1,11 +1,9 @@
 // Reads the formulas of a book line, into steps with their signs after their operands.
-ghost use Rattle.std.specs.Prelude.{◌≡◌, ℕ, ◌+◌, ◌<◌, ◌≤◌, List, [], ◌∷◌, length, drop, IfOk, vec_len, vec_capacity, MatchResult, ◌≢◌};
-ghost use Rattle.lines.specs.Tokens.{Tok, tok, parts, Lies};
-ghost use Rattle.lines.specs.Words.{word_of};
-ghost use Rattle.lines.specs.Grammar.{Additive, Multiplicative, Sum, Product, Factor, Function};
-ghost use Rattle.lines.specs.Reading.{text_at, items, Reads, Refuses, Joins, factors, adds, joins};
+ghost use Rattle.std.specs.Prelude.{◌≡◌, ◌+◌, ◌≤◌, length, vec_len};
+ghost use Rattle.lines.specs.declared.steps.TheConstants.{MAX_LEN};
 
 use crate::refusal::Refusal;
+use crate::steps::Steps;
 use crate::token::{Part, Sign, Token, next_token};
 use crate::word::{Unit, Word, word_of};
 
@@ -26,197 +24,199 @@ pub struct Place {
     pub len: usize,
 }
 
+impl From<Part<'_>> for Place {
+    ghost from_gives = { λ part place. place ≡ record { start = part.start; len = length part.text.now } };
+
+    fn from(part: Part<'_>) -> Self {
+        Place {
+            start: part.start,
+            len: part.text.len(),
+        }
+    }
+}
+
 // a step whose name is not looked up yet
 #[derive(Clone, Copy)]
 pub enum Raw {
     // a count of thousandths, and its unit
     Number(u32, Unit),
+    // by its place, since the steps stay when the line is gone
     Name(Place),
     Op(Op),
 }
 
-pub(crate) fn place_of(part: Part) -> Place
-    ensures { (line : List ℕ) → Lies line part.entry.text.now part.entry.start → part.entry.text.now ≡ text_at line result }
-{
-    Place {
-        start: part.start,
-        len: part.text.len(),
-    }
+// signs of one rank join from the left
+#[derive(Clone, Copy)]
+pub(crate) enum Rank {
+    // + and -, which join products
+    Sum,
+    // * and /, which join factors
+    Product,
 }
 
-// The place after the sign, which has to come next.
-pub(crate) fn expect(line: &[u8], at: usize, wanted: Sign) -> Result<usize, Refusal>
-    requires { (at ≤ length line.now) × (length line.now ≤ 120) }
-    ensures sign { MatchResult result (λ to. parts (drop at line.now) ≡ Tok.sign wanted ∷ parts (drop to line.now)) (λ e. (e ≡ Refusal.Grammar) × ((ts : List Tok) → parts (drop at line.now) ≢ Tok.sign wanted ∷ ts)) }
-    ensures bound { IfOk result (λ to. (at < to) × (to ≤ length line.now)) }
-{
-    let (token, after) = next_token(line, at);
-    match token {
-        Token::Sign(sign, _) => {
-            if sign == wanted {
-                Ok(after)
-            } else {
-                Err(Refusal::Grammar)
-            }
+impl Rank {
+    ghost use Rattle.lines.specs.Tokens.{tok};
+    ghost use Rattle.lines.specs.Reading.{Joins};
+
+    // The step of the sign, if it joins at this rank.
+    fn op(self, token: Token<'_>) -> Option<Op>
+        ensures { Joins self (tok token.entry) result }
+    {
+        match (self, token) {
+            (Rank::Sum, Token::Sign(Sign::Plus, _)) => Some(Op::Add),
+            (Rank::Sum, Token::Sign(Sign::Minus, _)) => Some(Op::Sub),
+            (Rank::Product, Token::Sign(Sign::Times, _)) => Some(Op::Mul),
+            (Rank::Product, Token::Sign(Sign::Over, _)) => Some(Op::Div),
+            _ => None,
         }
-        _ => Err(Refusal::Grammar),
     }
 }
 
-// The step of + and -, which join products.
-fn sum_op(token: Token) -> Option<Op>
-    ensures { Joins Additive adds (tok token.entry) result }
-{
-    match token {
-        Token::Sign(Sign::Plus, _) => Some(Op::Add),
-        Token::Sign(Sign::Minus, _) => Some(Op::Sub),
-        _ => None,
+// reads a line from the left; each step takes a byte at least, so there is room for all steps of a line
+#[derive(Drop)]
+pub(crate) struct Reader<'a, 's> {
+    pub(crate) line: &'a [u8],
+    // up to here the line is read
+    pub(crate) at: usize,
+    pub(crate) steps: &'s mut Steps,
+    ghost short: { length line.now ≤ MAX_LEN },
+    ghost within: { at ≤ length line.now },
+    ghost room: { vec_len steps.now.raw + length line.now ≤ MAX_LEN + at },
+}
+
+impl<'a, 's> Reader<'a, 's> {
+    ghost use Rattle.std.specs.Prelude.{◌≡◌, ℕ, ◌+◌, ◌<◌, ◌≤◌, List, [], ◌∷◌, ◌++◌, MatchResult, IfOk, ◌≢◌};
+    ghost use Rattle.lines.specs.Tokens.{Tok, tok, up_to, least, Placed};
+    ghost use Rattle.lines.specs.Words.{word_of};
+    ghost use Rattle.lines.specs.Grammar.{Sum, Product, Factor, Function};
+    ghost use Rattle.lines.specs.Reading.{ahead, Takes, Advances, Formula, Joined, Operand, rank_signs, tight, factors, joins};
+
+    // The next part, which is then read.
+    pub(crate) fn next(&mut self) -> Token<'a>
+        ensures part { ahead self.old ≡ up_to (tok result) (ahead self.new) }
+        ensures lies { Placed self.new.line.now result }
+        ensures takes { Takes self.old self.new }
+        ensures moves { self.old.at + least (tok result) ≤ self.new.at }
+    {
+        let (token, after) = next_token(self.line, self.at);
+        self.at = after;
+        token
     }
-}
 
-// The step of * and /, which join factors.
-fn product_op(token: Token) -> Option<Op>
-    ensures { Joins Multiplicative factors (tok token.entry) result }
-{
-    match token {
-        Token::Sign(Sign::Times, _) => Some(Op::Mul),
-        Token::Sign(Sign::Over, _) => Some(Op::Div),
-        _ => None,
-    }
-}
-
-// Products joined by + and -, from the left; `left` is how many parentheses may still open.
-#[cycle(formula)]
-pub(crate) fn sum(
-    line: &[u8],
-    start: usize,
-    left: usize,
-    out: &mut Vec<Raw>,
-) -> Result<usize, Refusal>
-    requires within { start ≤ length line.now }
-    requires short { length line.now ≤ 120 }
-    requires room { vec_len out.old + length line.now ≤ vec_capacity out.old + start }
-    ensures reads { MatchResult result (λ to. Reads Sum joins left (parts (drop start line.now)) (parts (drop to line.now)) (items line.now out.old.items) (items line.now out.new.items)) (λ e. Refuses left (parts (drop start line.now)) e) }
-    ensures bound { IfOk result (λ to. (start < to) × (to ≤ length line.now) × (vec_len out.new + start ≤ vec_len out.old + to)) }
-    ensures capacity { vec_capacity out.new ≡ vec_capacity out.old }
-{
-    let mut at = product(line, start, left, out)?;
-    loop {
-        let (token, after) = next_token(line, at);
-        let Some(op) = sum_op(token) else {
-            return Ok(at);
-        };
-        at = operand(line, after, left, out)?;
-        out.push_reserved(Raw::Op(op));
-    }
-}
-
-// The product after a sign.
-#[cycle(formula)]
-fn operand(line: &[u8], after: usize, left: usize, out: &mut Vec<Raw>) -> Result<usize, Refusal>
-    requires within { after ≤ length line.now }
-    requires short { length line.now ≤ 120 }
-    requires room { vec_len out.old + length line.now ≤ vec_capacity out.old + after }
-    ensures reads { MatchResult result (λ to. Reads Product factors left (parts (drop after line.now)) (parts (drop to line.now)) (items line.now out.old.items) (items line.now out.new.items)) (λ e. Refuses left (parts (drop after line.now)) e) }
-    ensures bound { IfOk result (λ to. (after < to) × (to ≤ length line.now) × (vec_len out.new + after ≤ vec_len out.old + to)) }
-    ensures capacity { vec_capacity out.new ≡ vec_capacity out.old }
-{
-    product(line, after, left, out)
-}
-
-// Factors joined by * and /, from the left.
-#[cycle(formula)]
-fn product(line: &[u8], start: usize, left: usize, out: &mut Vec<Raw>) -> Result<usize, Refusal>
-    requires within { start ≤ length line.now }
-    requires short { length line.now ≤ 120 }
-    requires room { vec_len out.old + length line.now ≤ vec_capacity out.old + start }
-    ensures reads { MatchResult result (λ to. Reads Product factors left (parts (drop start line.now)) (parts (drop to line.now)) (items line.now out.old.items) (items line.now out.new.items)) (λ e. Refuses left (parts (drop start line.now)) e) }
-    ensures bound { IfOk result (λ to. (start < to) × (to ≤ length line.now) × (vec_len out.new + start ≤ vec_len out.old + to)) }
-    ensures capacity { vec_capacity out.new ≡ vec_capacity out.old }
-{
-    let mut at = factor(line, start, left, out)?;
-    loop {
-        let (token, after) = next_token(line, at);
-        let Some(op) = product_op(token) else {
-            return Ok(at);
-        };
-        at = factor(line, after, left, out)?;
-        out.push_reserved(Raw::Op(op));
-    }
-}
-
-// A number, a name, a sum in parentheses, or min or max of two sums.
-#[cycle(formula)]
-fn factor(line: &[u8], start: usize, left: usize, out: &mut Vec<Raw>) -> Result<usize, Refusal>
-    requires within { start ≤ length line.now }
-    requires short { length line.now ≤ 120 }
-    requires room { vec_len out.old + length line.now ≤ vec_capacity out.old + start }
-    ensures reads { MatchResult result (λ to. Reads Factor [] left (parts (drop start line.now)) (parts (drop to line.now)) (items line.now out.old.items) (items line.now out.new.items)) (λ e. Refuses left (parts (drop start line.now)) e) }
-    ensures bound { IfOk result (λ to. (start < to) × (to ≤ length line.now) × (vec_len out.new + start ≤ vec_len out.old + to)) }
-    ensures capacity { vec_capacity out.new ≡ vec_capacity out.old }
-{
-    let (token, after) = next_token(line, start);
-    match token {
-        Token::Number(_, count, unit) => {
-            out.push_reserved(Raw::Number(count, unit));
-            Ok(after)
-        }
-        Token::Malformed(_) => Err(Refusal::Digits),
-        Token::Sign(Sign::Open, _) => group(line, after, left, out),
-        Token::Word(word) => match word_of(word.text) {
-            Word::Min => pair(line, after, left, Op::Min, out),
-            Word::Max => pair(line, after, left, Op::Max, out),
-            Word::Name => {
-                out.push_reserved(Raw::Name(place_of(word)));
-                Ok(after)
-            }
+    // Reads the sign, which has to come next.
+    pub(crate) fn expect(&mut self, wanted: Sign) -> Result<(), Refusal>
+        ensures sign { MatchResult result (λ _. ahead self.old ≡ Tok.sign wanted ∷ ahead self.new) (λ e. (e ≡ Refusal.Grammar) × ((ts : List Tok) → ahead self.old ≢ Tok.sign wanted ∷ ts)) }
+        ensures takes { Takes self.old self.new }
+        ensures moves { IfOk result (λ _. self.old.at < self.new.at) }
+    {
+        match self.next() {
+            Token::Sign(sign, _) if sign == wanted => Ok(()),
             _ => Err(Refusal::Grammar),
-        },
-        _ => Err(Refusal::Grammar),
+        }
     }
-}
 
-// What follows an open parenthesis: a sum and the closing one.
-#[cycle(formula)]
-fn group(line: &[u8], start: usize, left: usize, out: &mut Vec<Raw>) -> Result<usize, Refusal>
-    requires within { start ≤ length line.now }
-    requires short { length line.now ≤ 120 }
-    requires room { vec_len out.old + length line.now ≤ vec_capacity out.old + start }
-    ensures reads { MatchResult result (λ to. Reads Factor [] left (Tok.sign Sign.Open ∷ parts (drop start line.now)) (parts (drop to line.now)) (items line.now out.old.items) (items line.now out.new.items)) (λ e. Refuses left (Tok.sign Sign.Open ∷ parts (drop start line.now)) e) }
-    ensures bound { IfOk result (λ to. (start < to) × (to ≤ length line.now) × (vec_len out.new + start ≤ vec_len out.old + to)) }
-    ensures capacity { vec_capacity out.new ≡ vec_capacity out.old }
-{
-    if left == 0 {
-        return Err(Refusal::Nesting);
+    // Products joined by + and -; `left` is how many parentheses may still open.
+    #[cycle(formula)]
+    pub(crate) fn sum(&mut self, left: usize) -> Result<(), Refusal>
+        ensures reads { Formula Sum joins left (ahead self.old) result self.old self.new }
+        ensures moves { Advances result self.old self.new }
+    {
+        self.joined(Rank::Sum, left)
     }
-    let at = sum(line, start, left - 1, out)?;
-    expect(line, at, Sign::Close)
-}
 
-// What follows min or max: two sums in parentheses.
-#[cycle(formula)]
-fn pair(
-    line: &[u8],
-    start: usize,
-    left: usize,
-    op: Op,
-    out: &mut Vec<Raw>,
-) -> Result<usize, Refusal>
-    requires within { start ≤ length line.now }
-    requires short { length line.now ≤ 120 }
-    requires room { vec_len out.old + length line.now ≤ vec_capacity out.old + start }
-    ensures reads { (w : List ℕ) → Function (word_of w) op → MatchResult result (λ to. Reads Factor [] left (Tok.word w ∷ parts (drop start line.now)) (parts (drop to line.now)) (items line.now out.old.items) (items line.now out.new.items)) (λ e. Refuses left (Tok.word w ∷ parts (drop start line.now)) e) }
-    ensures bound { IfOk result (λ to. (start < to) × (to ≤ length line.now) × (vec_len out.new + start ≤ vec_len out.old + to)) }
-    ensures capacity { vec_capacity out.new ≡ vec_capacity out.old }
-{
-    let first = expect(line, start, Sign::Open)?;
-    if left == 0 {
-        return Err(Refusal::Nesting);
+    // Factors joined by * and /.
+    #[cycle(formula)]
+    fn product(&mut self, left: usize) -> Result<(), Refusal>
+        ensures reads { Formula Product factors left (ahead self.old) result self.old self.new }
+        ensures moves { Advances result self.old self.new }
+    {
+        self.joined(Rank::Product, left)
     }
-    let comma = sum(line, first, left - 1, out)?;
-    let second = expect(line, comma, Sign::Comma)?;
-    let close = sum(line, second, left - 1, out)?;
-    let end = expect(line, close, Sign::Close)?;
-    out.push_reserved(Raw::Op(op));
-    Ok(end)
+
+    // What the signs of the rank join, from the left.
+    #[cycle(formula)]
+    fn joined(&mut self, rank: Rank, left: usize) -> Result<(), Refusal>
+        ensures reads { Formula (Joined rank) (rank_signs rank ++ tight rank) left (ahead self.old) result self.old self.new }
+        ensures moves { Advances result self.old self.new }
+    {
+        self.operand(rank, left)?;
+        loop {
+            let (token, after) = next_token(self.line, self.at);
+            let Some(op) = rank.op(token) else {
+                return Ok(());
+            };
+            self.at = after;
+            self.operand(rank, left)?;
+            self.steps.push(Raw::Op(op));
+        }
+    }
+
+    // What a sign of the rank joins.
+    #[cycle(formula)]
+    fn operand(&mut self, rank: Rank, left: usize) -> Result<(), Refusal>
+        ensures reads { Formula (Operand rank) (tight rank) left (ahead self.old) result self.old self.new }
+        ensures moves { Advances result self.old self.new }
+    {
+        match rank {
+            Rank::Sum => self.product(left),
+            Rank::Product => self.factor(left),
+        }
+    }
+
+    // A number, a name, a sum in parentheses, or min or max of two sums.
+    #[cycle(formula)]
+    fn factor(&mut self, left: usize) -> Result<(), Refusal>
+        ensures reads { Formula Factor [] left (ahead self.old) result self.old self.new }
+        ensures moves { Advances result self.old self.new }
+    {
+        match self.next() {
+            Token::Number(_, count, unit) => {
+                self.steps.push(Raw::Number(count, unit));
+                Ok(())
+            }
+            Token::Malformed(_) => Err(Refusal::Digits),
+            Token::Sign(Sign::Open, _) => self.group(left),
+            Token::Word(word) => match word_of(word.text) {
+                Word::Min => self.pair(left, Op::Min),
+                Word::Max => self.pair(left, Op::Max),
+                Word::Name => {
+                    self.steps.push(Raw::Name(word.into()));
+                    Ok(())
+                }
+                _ => Err(Refusal::Grammar),
+            },
+            _ => Err(Refusal::Grammar),
+        }
+    }
+
+    // What follows an open parenthesis: a sum and the closing one.
+    #[cycle(formula)]
+    fn group(&mut self, left: usize) -> Result<(), Refusal>
+        ensures reads { Formula Factor [] left (Tok.sign Sign.Open ∷ ahead self.old) result self.old self.new }
+        ensures moves { Advances result self.old self.new }
+    {
+        if left == 0 {
+            return Err(Refusal::Nesting);
+        }
+        self.sum(left - 1)?;
+        self.expect(Sign::Close)
+    }
+
+    // What follows min or max: two sums in parentheses.
+    #[cycle(formula)]
+    fn pair(&mut self, left: usize, op: Op) -> Result<(), Refusal>
+        ensures reads { (w : List ℕ) → Function (word_of w) op → Formula Factor [] left (Tok.word w ∷ ahead self.old) result self.old self.new }
+        ensures moves { Advances result self.old self.new }
+    {
+        self.expect(Sign::Open)?;
+        if left == 0 {
+            return Err(Refusal::Nesting);
+        }
+        self.sum(left - 1)?;
+        self.expect(Sign::Comma)?;
+        self.sum(left - 1)?;
+        self.expect(Sign::Close)?;
+        self.steps.push(Raw::Op(op));
+        Ok(())
+    }
 }

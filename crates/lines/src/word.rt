@@ -1,12 +1,13 @@
 // The words of a book line: commands, functions, units and names.
 ghost use Rattle.std.specs.Prelude.{◌≡◌};
+ghost use Rattle.std.specs.Map.{lookup};
 ghost use Rattle.std.specs.Str.{bytes_eq};
-ghost use Rattle.lines.specs.Words.{unit_of, plain_word_of, word_of};
+ghost use Rattle.lines.specs.Words.{unit_of, reserved, plain_word_of, word_of};
 
 // exponents of inch and of kip
 pub type Unit = (i8, i8);
 
-#[derive(Clone, Copy)]
+#[derive(Clone, Copy, PartialEq, Eq, Debug)]
 pub enum Word {
     Entry,
     Line,
@@ -20,68 +21,46 @@ pub enum Word {
     Other,
 }
 
-pub(crate) fn same(text: &[u8], word: &[u8]) -> bool
-    ensures { result ≡ bytes_eq text.now word.now }
-{
-    text == word
-}
-
 // The unit that the word names.
 pub(crate) fn unit_of(text: &[u8]) -> Option<Unit>
     ensures { result ≡ unit_of text.now }
 {
-    if same(text, b"one") {
-        return Some((0, 0));
+    match text {
+        b"one" => Some((0, 0)),
+        b"in" => Some((1, 0)),
+        b"in2" => Some((2, 0)),
+        b"kip" => Some((0, 1)),
+        b"kipin" => Some((1, 1)),
+        b"ksi" => Some((-2, 1)),
+        _ => None,
     }
-    if same(text, b"in") {
-        return Some((1, 0));
-    }
-    if same(text, b"in2") {
-        return Some((2, 0));
-    }
-    if same(text, b"kip") {
-        return Some((0, 1));
-    }
-    if same(text, b"kipin") {
-        return Some((1, 1));
-    }
-    if same(text, b"ksi") {
-        return Some((-2, 1));
-    }
-    None
 }
 
+// What a word of the language is, besides the units.
+fn reserved(text: &[u8]) -> Option<Word>
+    ensures { result ≡ lookup (bytes_eq text.now) reserved }
+{
+    match text {
+        b"entry" => Some(Word::Entry),
+        b"line" => Some(Word::Line),
+        b"rule" => Some(Word::Rule),
+        b"root" => Some(Word::Root),
+        b"min" => Some(Word::Min),
+        b"max" => Some(Word::Max),
+        b"form" => Some(Word::Other),
+        b"close" => Some(Word::Other),
+        _ => None,
+    }
+}
+
+// Any word but a unit; a name has at most 16 letters and digits.
 fn plain_word_of(text: &[u8]) -> Word
     ensures { result ≡ plain_word_of text.now }
 {
-    if same(text, b"entry") {
-        return Word::Entry;
-    }
-    if same(text, b"line") {
-        return Word::Line;
-    }
-    if same(text, b"rule") {
-        return Word::Rule;
-    }
-    if same(text, b"root") {
-        return Word::Root;
-    }
-    if same(text, b"min") {
-        return Word::Min;
-    }
-    if same(text, b"max") {
-        return Word::Max;
-    }
-    if same(text, b"form") {
-        return Word::Other;
-    }
-    if same(text, b"close") {
-        return Word::Other;
-    }
-    if text.len() <= 16 {
-        Word::Name
-    } else {
-        Word::Other
+    match reserved(text) {
+        Some(word) => word,
+        None if text.len() <= 16 => Word::Name,
+        None => Word::Other,
     }
 }
 

@@ -1,77 +1,53 @@
-use Rattle.std.proofs.Common.{length, Ok, vec_items, refl, ap, ◌∙◌, subst, arith, length-append}
-use lib.ListN.{length-map}
-use Rattle.lines.specs.Grammar.{Stated, postfix}
-use Rattle.lines.specs.Reading.{text_at, item, items, Read}
-use Rattle.lines.specs.Tokens.{parts}
-use Rattle.lines.proofs.Bounds.{line_small}
-use Rattle.books.specs.Drafts.{lists_of, Grows, Reads, Settles}
-use Rattle.books.proofs.Stated.{adds, settles, unrefused, short_name}
+use Rattle.std.proofs.Common.{◌≤◌, List, ℕ, length, Some, vec_items, refl, ap, ◌∙◌, inl, arith, length-append, ◌≡◌}
+use Rattle.std.proofs.lemmas.List.{length-map}
+use Rattle.lines.specs.Grammar.{Stated, Line as IsLine, declares, postfix}
+use Rattle.lines.specs.Reading.{item}
+use Rattle.lines.specs.Tokens.{Tok, parts}
+use Rattle.lines.proofs.Bounds.{line_small, name_short, line_names}
+use Rattle.books.specs.Drafts.{Grows}
 use Rattle.books.proofs.draft.Draft.add_stated.Goals as goal
+
+-- a declared name has at most 16 letters and digits
+short_name : (ts : List Tok) (s : Stated) (n : List ℕ) → IsLine ts s → declares s ≡ Some n → length n ≤ 16
+short_name ts s n l e = name_short n (line_names ts s l n e)
 
 pub add_entry-requires : goal.add_entry-requires
 add_entry-requires c =
     let text = c.args.line.now in
-    let p = c.in-Ok.ensures in
-    let read = subst (Read text (items text (vec_items c.read_line.new.steps.raw)) (parts text)) c.in-Entry.is p.reads.0 in
-    omega (arith, ap length c.text_at.ensures, short_name (parts text) _ (text_at text c.in-Entry.place) read.0 refl)
+    let read = rw c.in-Entry.is at c.in_ok-read_line.ensures.reads.0 in
+    short_name (parts text) _ c.in-Entry.name.now read.0 refl
 
 pub add_line-requires : goal.add_line-requires
 add_line-requires c =
     let text = c.args.line.now in
-    let p = c.in-Ok.ensures in
-    let read = subst (Read text (items text (vec_items c.read_line.new.steps.raw)) (parts text)) c.in-Line.is p.reads.0 in
-    record { room = (p.room, short_name (parts text) _ (text_at text c.in-Line.place) read.1 refl); stated = (read.0, read.2, line_small text _ read.1) }
+    let p = c.in_ok-read_line.ensures in
+    let read = rw c.in-Line.is at p.reads.0 in
+    record {
+      room = (p.room, short_name (parts text) _ c.in-Line.name.now read.1 refl);
+      stated = (read.0, read.2, line_small text _ read.1);
+    }
 
 pub add_rule-requires : goal.add_rule-requires
 add_rule-requires c =
     let text = c.args.line.now in
     let raw = c.read_line.new.steps.raw in
-    let p = c.in-Ok.ensures in
-    let read = subst (Read text (items text (vec_items c.read_line.new.steps.raw)) (parts text)) c.in-Rule.is p.reads.0 in
+    let p = c.in_ok-read_line.ensures in
+    let read = rw c.in-Rule.is at p.reads.0 in
     let all = ap length read.3 ∙ length-append (postfix read.0) (postfix read.1) in
     let small = line_small text _ read.2 in
-    record { room = (p.room, (omega (arith, read.4, all, length-map (vec_items raw) (item text), raw.ok.0), short_name (parts text) _ (text_at text c.in-Rule.place) read.2 refl)); stated = (read.0, read.1, read.3, read.4, small.0, small.1) }
+    record {
+      room = (p.room, (omega (arith, read.4, all, length-map (vec_items raw) (item text), raw.ok.0), short_name (parts text) _ c.in-Rule.name.now read.2 refl));
+      stated = (read.0, read.1, read.3, read.4, small.0, small.1);
+    }
 
-pub returns-in-Blank : goal.returns-in-Blank
-returns-in-Blank c =
-    let text = c.args.line.now in
-    let d = lists_of c.args.self.now.book in
-    let p = c.in-Ok.ensures in
-    let read = subst (Read text (items text (vec_items c.read_line.new.steps.raw)) (parts text)) c.in-Blank.is p.reads.0 in
-    let s = Stated.blank in
-    let h : Reads text s = (p.reads.1, p.reads.2, read.0) in
-    let k : Settles d s (Ok tt) d = (refl, Grows.blank) in
-    record { adds = adds d d text (Ok tt) s h k; settles = settles d d text (Ok tt) s h k (p.one (parts text)); refused = unrefused d d text (Ok tt) _ p.only }
+pub returns-in-Blank-clause-adds : goal.returns-in-Blank-clause-adds
+returns-in-Blank-clause-adds c =
+    let p = c.in_ok-read_line.ensures in
+    let read = rw c.in-Blank.is at p.reads.0 in
+    rw (← c.self.view_is) (inl (Stated.blank, (p.reads.1, p.reads.2, read.0), (refl, Grows.blank)))
 
-pub returns-in-Entry : goal.returns-in-Entry
-returns-in-Entry c =
-    let text = c.args.line.now in
-    let d = lists_of c.args.self.now.book in
-    let p = c.in-Ok.ensures in
-    let read = subst (Read text (items text (vec_items c.read_line.new.steps.raw)) (parts text)) c.in-Entry.is p.reads.0 in
-    let s = Stated.entry (text_at text c.in-Entry.place) c.in-Entry.unit in
-    let h : Reads text s = (p.reads.1, p.reads.2, read.0) in
-    let k = subst (λ n. Settles d (Stated.entry n c.in-Entry.unit) c.add_entry.result (lists_of c.add_entry.new.self.book)) c.text_at.ensures c.add_entry.ensures in
-    record { adds = adds d _ text _ s h k; settles = settles d _ text _ s h k (p.one (parts text)); refused = unrefused d _ text _ _ p.only }
-
-pub returns-in-Line : goal.returns-in-Line
-returns-in-Line c =
-    let text = c.args.line.now in
-    let d = lists_of c.args.self.now.book in
-    let p = c.in-Ok.ensures in
-    let read = subst (Read text (items text (vec_items c.read_line.new.steps.raw)) (parts text)) c.in-Line.is p.reads.0 in
-    let s = Stated.line (text_at text c.in-Line.place) read.0 in
-    let h : Reads text s = (p.reads.1, p.reads.2, read.1) in
-    let k = c.add_line.ensures read.0 read.2 in
-    record { adds = adds d _ text _ s h k; settles = settles d _ text _ s h k (p.one (parts text)); refused = unrefused d _ text _ _ p.only }
-
-pub returns-in-Rule : goal.returns-in-Rule
-returns-in-Rule c =
-    let text = c.args.line.now in
-    let d = lists_of c.args.self.now.book in
-    let p = c.in-Ok.ensures in
-    let read = subst (Read text (items text (vec_items c.read_line.new.steps.raw)) (parts text)) c.in-Rule.is p.reads.0 in
-    let s = Stated.rule (text_at text c.in-Rule.place) c.in-Rule.root read.0 read.1 in
-    let h : Reads text s = (p.reads.1, p.reads.2, read.2) in
-    let k = c.add_rule.ensures read.0 read.1 read.3 read.4 in
-    record { adds = adds d _ text _ s h k; settles = settles d _ text _ s h k (p.one (parts text)); refused = unrefused d _ text _ _ p.only }
+pub returns-in-Blank-clause-settles : goal.returns-in-Blank-clause-settles
+returns-in-Blank-clause-settles c = λ s h.
+    let p = c.in_ok-read_line.ensures in
+    let read = rw c.in-Blank.is at p.reads.0 in
+    rw (← c.self.view_is, ← p.one (parts c.args.line.now) Stated.blank s read.0 h.2) (refl, Grows.blank)

@@ -1,0 +1,23 @@
+use Rattle.books.proofs.Growth.{words_of, line_needs, stands_line}
+use Rattle.books.proofs.book.Book.push_line.Goals as goal
+
+pub invariant_of-self : goal.invariant_of-self
+invariant_of-self c =
+    let s = c.self.invariant in
+    let needs = c.row_needs-needs in
+    let more = c.args.row.now in
+    let room = rw (← c.self.view_is) at c.requires.room in
+    let st = rw (← c.self.view_is) at c.requires.stands in
+    rw (c.push.ensures, c.extend_from_slice.ensures, c.as_slice-start.ensures.items) (stands_line _ s needs.result more st.0 st.1 st.2 (words_of _ s more st.0 needs.result c.as_slice.ensures.items st.2 st.1 needs.ensures.entries needs.ensures.lines) c.args.name c.args.unit st.3 room.0 room.1.1)
+
+pub returns : goal.returns
+returns c =
+    let s = c.self.invariant in
+    let needs = c.row_needs-needs in
+    let more = c.args.row.now in
+    let st = rw (← c.self.view_is) at c.requires.stands in
+    rw (← c.self.view_is) (
+      needs.result,
+      rw (c.push.ensures, c.extend_from_slice.ensures, c.as_slice-start.ensures.items),
+      line_needs _ s needs.result more st.0 st.1 st.2 (words_of _ s more st.0 needs.result c.as_slice.ensures.items st.2 st.1 needs.ensures.entries needs.ensures.lines),
+    )

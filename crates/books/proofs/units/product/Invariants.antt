@@ -1,0 +1,5 @@
+use Rattle.std.proofs.Common.{◌+ℤ◌}
+use Rattle.books.proofs.units.product.Given as goal
+
+abbrev pub ghost-combined : goal.ghost-combined
+ghost-combined a = ◌+ℤ◌
