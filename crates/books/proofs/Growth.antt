@@ -4,6 +4,7 @@ use Rattle.std.proofs.lemmas.Bool.{cases_lt}
 use Rattle.std.proofs.lemmas.Bool.Decides.{Decides-at}
 use Rattle.std.proofs.lemmas.Option.{slice_get_past}
 use Rattle.sets.specs.Members.{has}
+use Rattle.lines.specs.Grammar.{Stated}
 use Rattle.books.specs.declared.name.Name.{Name}
 use Rattle.books.specs.declared.step.Entry.{Entry}
 use Rattle.books.specs.declared.step.Line.{Line}
@@ -13,7 +14,7 @@ use Rattle.books.specs.declared.step.Step.{Step}
 use Rattle.books.specs.Formulas.{Named, entry, line, Formula, steps, formula}
 use Rattle.books.specs.Needs.{in_words, reaches, any_name, row_entry, row_line}
 use Rattle.books.specs.Books.{Lists, Stands, within, LinesStand, LineWords}
-use Rattle.books.specs.Drafts.{unit_in, Words, NeededIn, RuleSides, with_entry, with_line, with_rule}
+use Rattle.books.specs.Drafts.{Grows, unit_in, Words, NeededIn, RuleSides, with_entry, with_line, with_rule}
 use Rattle.books.proofs.Postfix.{formula_steps}
 use Rattle.books.proofs.Reach.{row_entries, row_lines, needed_decides, needed_both}
 use Rattle.books.proofs.Standing.{lines_more, line_words_more, rules_more, rule_words_more, lines_push, line_words_push, rules_push, rule_words_push}
@@ -28,6 +29,10 @@ line_words_kept es ls row c h w k x = ⊎_elim
     (λ (l : k < length ls). simp append-nil at (line_words_more es ls [] row c h w k x l))
     (λ (l : length ls ≤ k). simp (slice_get_past ls k l))
     (cases_lt k (length ls))
+
+-- the lists with an entry at the end, whose name is a text of at most 16
+pub grows_entry : (d d' : Lists) (name : Name) (u : ℤ × ℤ) (text : List ℕ) → d' ≡ with_entry d name u → text ≡ name → length text ≤ 16 → Grows d (Stated.entry name u) d'
+grows_entry d d' name u text e p short = rw e (Grows.entry name (rw p at short))
 
 module _ (d : Lists) (s : Stands d) where
   -- ---- an entry

@@ -4,41 +4,42 @@ ghost use Rattle.lines.specs.Grammar.{Stated};
 ghost use Rattle.books.specs.Formulas.{Formula, steps};
 ghost use Rattle.books.specs.Books.{units, within};
 ghost use Rattle.books.specs.Units.{formula_unit};
-ghost use Rattle.books.specs.Drafts.{with_line, with_rule, Grows, Settles, Words, NeededIn, RuleSides};
+ghost use Rattle.books.specs.Drafts.{with_entry, with_line, with_rule, Settles, Words, NeededIn, RuleSides};
 
 use crate::book::Book;
 use crate::name::Name;
 use crate::needs::row_needs;
 use crate::refusal::Refusal;
+use crate::reserved::Reserved;
 use crate::step::{Entry, Line, Needs, Rule, Span, Step};
 use lines::Unit;
 
 impl Book {
     // Adds an entry, or nothing and says why.
-    pub(crate) fn add_entry(&mut self, name: &[u8], unit: Unit) -> Result<(), Refusal>
-        requires { length name.now ≤ 16 }
-        ensures { Settles self.old (Stated.entry name.now unit) result self.new }
+    #[tactic(auto, using(crate::proofs::Growth::grows_entry))]
+    pub(crate) fn add_entry(&mut self, name: Name, unit: Unit) -> Result<(), Refusal>
+        ensures { Settles self.old (Stated.entry name unit) result self.new }
     {
-        self.check_entry(name)?;
+        self.check_entry(name.text())?;
         self.push_entry(name, unit);
         Ok(())
     }
 
-    // One entry more.
-    pub(crate) fn push_entry(&mut self, text: &[u8], unit: Unit)
-        requires { (length self.old.entries < 64) × (length text.now ≤ 16) }
-        ensures { Grows self.old (Stated.entry text.now unit) self.new }
+    // One entry more. (Each of the three asks for room in its own list: a type that shows it would be one for each list.)
+    pub(crate) fn push_entry(&mut self, name: Name, unit: Unit)
+        requires { length self.old.entries < 64 }
+        ensures { self.new ≡ with_entry self.old name unit }
     {
-        let name = Name::new(text);
         self.entries.push(Entry { name, unit });
     }
 
     // One line more, with the steps of its formula.
-    pub(crate) fn push_line(&mut self, name: Name, unit: Unit, row: &[Step])
-        requires room { (length self.old.lines < 64) × ((length self.old.steps + length row.now ≤ 1024) × (length row.now ≤ 120)) }
+    pub(crate) fn push_line(&mut self, name: Name, unit: Unit, row: &Reserved<Step, 120>)
+        requires room { (length self.old.lines < 64) × (length self.old.steps + length row.now ≤ 1024) }
         requires stands { (f : Formula) × (row.now ≡ steps f) × (within (length self.old.entries) (length self.old.lines) f ≡ true) × (formula_unit (units self.old.entries self.old.lines) f ≡ Ok unit) }
         ensures { (needs : Needs) × (self.new ≡ with_line self.old name unit needs row.now) × ((f : Formula) → row.now ≡ steps f → Words needs (NeededIn self.old f)) }
     {
+        let row = row.as_slice();
         let needs = row_needs(self.lines.as_slice(), row);
         let start = self.steps.as_slice().len();
         let len = row.len();
@@ -51,7 +52,7 @@ impl Book {
         });
     }
 
-    // One rule more, with the steps of its sides.
+    // One rule more, with the steps of its sides: parts of a row, and so slices.
     pub(crate) fn push_rule(
         &mut self,
         name: Name,

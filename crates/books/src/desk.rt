@@ -1,12 +1,13 @@
 // The memory for reading one line.
-ghost use Rattle.std.specs.Prelude.{◌≡◌, ◌≤◌, ◌++◌, length, take, drop, vec_len, MatchResult};
+ghost use Rattle.std.specs.Prelude.{◌≡◌, ◌≤◌, ◌++◌, length, take, drop, vec_len, Some, None, MatchResult};
 ghost use Rattle.lines.specs.Grammar.{Tree, Stated, Counts, postfix};
 ghost use Rattle.lines.specs.Reading.{items};
-ghost use Rattle.books.specs.Drafts.{refusal_of, LineChecked, RuleChecked, Settles};
+ghost use Rattle.books.specs.Names.{resolved};
+ghost use Rattle.books.specs.Drafts.{look_in, refusal_of, LineChecked, RuleChecked, Settles};
 
 use crate::book::Book;
 use crate::name::Name;
-use crate::names::resolve;
+use crate::names::step_of;
 use crate::refusal::Refusal;
 use crate::reserved::Reserved;
 use crate::step::Step;
@@ -20,6 +21,7 @@ pub(crate) struct Desk {
     pub(crate) parsed: Steps,
     row: Reserved<Step, 120>,
     units: Reserved<Unit, 120>,
+    ghost few: { vec_len parsed.raw ≤ 120 },
 }
 
 impl Desk {
@@ -31,19 +33,28 @@ impl Desk {
         })
     }
 
+    // The steps with their names looked up, left in `row`, or the refusal where a name is unknown.
+    fn resolve(&mut self, book: &Book, line: &[u8]) -> Result<(), Refusal>
+        ensures { MatchResult result (λ _. resolved (look_in book.now) (items line.now self.old.parsed.raw.items) ≡ Some self.new.row) (λ e. (e ≡ Refusal.Unknown) × (resolved (look_in book.now) (items line.now self.old.parsed.raw.items) ≡ None)) }
+    {
+        let parsed = &self.parsed;
+        let row = &mut self.row;
+        row.clear();
+        for x in parsed.raw.as_slice() {
+            let Some(step) = step_of(book, line, *x) else {
+                return Err(Refusal::Unknown);
+            };
+            row.push(step);
+        }
+        Ok(())
+    }
+
     // Looks up the names of a line and checks its units; its steps are left in `row`.
-    pub(crate) fn check_line(
-        &mut self,
-        book: &Book,
-        line: &[u8],
-        name: &[u8],
-    ) -> Result<Unit, Refusal>
-        requires { vec_len self.old.parsed.raw ≤ 120 }
+    fn check_line(&mut self, book: &Book, line: &[u8], name: &[u8]) -> Result<Unit, Refusal>
         ensures { (t : Tree) → items line.now self.old.parsed.raw.items ≡ postfix t → MatchResult result (LineChecked book.now name.now t self.new.row) (λ e. refusal_of book.now (Stated.line name.now t) ≡ Some e) }
     {
         book.check_name(name)?;
-        let parsed = &self.parsed;
-        resolve(book, line, parsed.raw.as_slice(), &mut self.row)?;
+        self.resolve(book, line)?;
         let row = self.row.as_slice();
         let unit = row_unit(book, row, &mut self.units)?;
         book.check_room(book.lines().len(), row.len())?;
@@ -51,7 +62,7 @@ impl Desk {
     }
 
     // The same for a rule: the first `split` steps are its left side's.
-    pub(crate) fn check_rule(
+    fn check_rule(
         &mut self,
         book: &Book,
         line: &[u8],
@@ -59,12 +70,11 @@ impl Desk {
         root: bool,
         split: usize,
     ) -> Result<Unit, Refusal>
-        requires { (vec_len self.old.parsed.raw ≤ 120) × (split ≤ vec_len self.old.parsed.raw) }
+        requires { split ≤ vec_len self.old.parsed.raw }
         ensures { (t u : Tree) → items line.now self.old.parsed.raw.items ≡ postfix t ++ postfix u → split ≡ length (postfix t) → MatchResult result (RuleChecked book.now name.now root t u (take split self.new.row) (drop split self.new.row)) (λ e. refusal_of book.now (Stated.rule name.now root t u) ≡ Some e) }
     {
         book.check_name(name)?;
-        let parsed = &self.parsed;
-        resolve(book, line, parsed.raw.as_slice(), &mut self.row)?;
+        self.resolve(book, line)?;
         let row = self.row.as_slice();
         let (left, right) = row.split_at(split);
         let unit = row_unit(book, left, &mut self.units)?;
@@ -81,14 +91,13 @@ impl Desk {
         &mut self,
         book: &mut Book,
         line: &[u8],
-        name: &[u8],
+        name: Name,
     ) -> Result<(), Refusal>
-        requires room { (vec_len self.old.parsed.raw ≤ 120) × (length name.now ≤ 16) }
-        requires stated { (t : Tree) × (items line.now self.old.parsed.raw.items ≡ postfix t) × Counts t }
-        ensures { (t : Tree) → items line.now self.old.parsed.raw.items ≡ postfix t → Settles book.old (Stated.line name.now t) result book.new }
+        requires { (t : Tree) × (items line.now self.old.parsed.raw.items ≡ postfix t) × Counts t }
+        ensures { (t : Tree) → items line.now self.old.parsed.raw.items ≡ postfix t → Settles book.old (Stated.line name t) result book.new }
     {
-        let unit = self.check_line(book, line, name)?;
-        book.push_line(Name::new(name), unit, self.row.as_slice());
+        let unit = self.check_line(book, line, name.text())?;
+        book.push_line(name, unit, &self.row);
         Ok(())
     }
 
@@ -97,17 +106,16 @@ impl Desk {
         &mut self,
         book: &mut Book,
         line: &[u8],
-        name: &[u8],
+        name: Name,
         root: bool,
         split: usize,
     ) -> Result<(), Refusal>
-        requires room { (vec_len self.old.parsed.raw ≤ 120) × ((split ≤ vec_len self.old.parsed.raw) × (length name.now ≤ 16)) }
-        requires stated { (t : Tree) × (u : Tree) × (items line.now self.old.parsed.raw.items ≡ postfix t ++ postfix u) × (split ≡ length (postfix t)) × Counts t × Counts u }
-        ensures { (t u : Tree) → items line.now self.old.parsed.raw.items ≡ postfix t ++ postfix u → split ≡ length (postfix t) → Settles book.old (Stated.rule name.now root t u) result book.new }
+        requires { (t : Tree) × (u : Tree) × (items line.now self.old.parsed.raw.items ≡ postfix t ++ postfix u) × (split ≡ length (postfix t)) × Counts t × Counts u }
+        ensures { (t u : Tree) → items line.now self.old.parsed.raw.items ≡ postfix t ++ postfix u → split ≡ length (postfix t) → Settles book.old (Stated.rule name root t u) result book.new }
     {
-        let unit = self.check_rule(book, line, name, root, split)?;
+        let unit = self.check_rule(book, line, name.text(), root, split)?;
         let (left, right) = self.row.as_slice().split_at(split);
-        book.push_rule(Name::new(name), root, unit, left, right);
+        book.push_rule(name, root, unit, left, right);
         Ok(())
     }
 }

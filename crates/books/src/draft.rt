@@ -7,6 +7,8 @@ ghost use Rattle.lines.specs.Faults.{Refused};
 
 use crate::book::Book;
 use crate::desk::Desk;
+use crate::name::Name;
+use crate::names::text_at;
 use crate::refusal::Refusal;
 use lines::{Statement, read_line};
 use std::alloc::{AllocError, Global};
@@ -46,9 +48,16 @@ impl Draft {
     {
         match read_line(line, &mut self.desk.parsed)? {
             Statement::Blank => Ok(()),
-            Statement::Entry { name, unit } => self.book.add_entry(name, unit),
-            Statement::Line { name } => self.desk.add_line(&mut self.book, line, name),
+            Statement::Entry { name, unit } => {
+                let name = Name::new(text_at(line, name));
+                self.book.add_entry(name, unit)
+            }
+            Statement::Line { name } => {
+                let name = Name::new(text_at(line, name));
+                self.desk.add_line(&mut self.book, line, name)
+            }
             Statement::Rule { name, root, split } => {
+                let name = Name::new(text_at(line, name));
                 self.desk.add_rule(&mut self.book, line, name, root, split)
             }
         }

@@ -1,17 +1,15 @@
-// Names: what they stand for, and the steps of a formula with its names looked up.
-ghost use Rattle.std.specs.Prelude.{◌≡◌, ◌≤◌, length, Some, None, MatchResult};
-ghost use Rattle.lines.specs.Reading.{text_at, item, items};
-ghost use Rattle.books.specs.Names.{step_of, resolved};
+// Names: what they stand for, and the step of an item with its name looked up.
+ghost use Rattle.std.specs.Prelude.{◌≡◌};
+ghost use Rattle.lines.specs.Reading.{text_at, item};
+ghost use Rattle.books.specs.Names.{step_of};
 ghost use Rattle.books.specs.Drafts.{look_in};
 
 use crate::book::Book;
-use crate::refusal::Refusal;
-use crate::reserved::Reserved;
 use crate::slices::cut;
 use crate::step::{Declared, Step};
 use lines::{Place, Raw};
 
-// What the name stands for.
+// What the name stands for. Looked for in the lists themselves, since a map would ask for memory at each line.
 pub(crate) fn find(book: &Book, text: &[u8]) -> Option<Declared>
     ensures { result ≡ look_in book.now text.now }
 {
@@ -33,7 +31,7 @@ pub(crate) fn text_at(line: &[u8], place: Place) -> &[u8]
 }
 
 // The step, if its name is that of an entry or a line.
-fn step_of(book: &Book, line: &[u8], raw: Raw) -> Option<Step>
+pub(crate) fn step_of(book: &Book, line: &[u8], raw: Raw) -> Option<Step>
     ensures { result ≡ step_of (look_in book.now) (item line.now raw) }
 {
     match raw {
@@ -45,24 +43,4 @@ fn step_of(book: &Book, line: &[u8], raw: Raw) -> Option<Step>
         },
         Raw::Op(op) => Some(Step::Op(op)),
     }
-}
-
-// The steps with their names looked up, or the refusal where a name is unknown.
-pub(crate) fn resolve(
-    book: &Book,
-    line: &[u8],
-    raw: &[Raw],
-    row: &mut Reserved<Step, 120>,
-) -> Result<(), Refusal>
-    requires { length raw.now ≤ 120 }
-    ensures { MatchResult result (λ _. resolved (look_in book.now) (items line.now raw.now) ≡ Some row.new) (λ e. (e ≡ Refusal.Unknown) × (resolved (look_in book.now) (items line.now raw.now) ≡ None)) }
-{
-    row.clear();
-    for x in raw {
-        let Some(step) = step_of(book, line, *x) else {
-            return Err(Refusal::Unknown);
-        };
-        row.push(step);
-    }
-    Ok(())
 }

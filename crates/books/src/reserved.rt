@@ -5,7 +5,7 @@ ghost use Rattle.std.specs.Option.{option_to_list};
 use std::alloc::{AllocError, Global};
 use std::marker::Model;
 
-// at most N items, with the memory for N
+// at most N items, with the memory for N (`lines::Steps` is an open `Vec` with that memory, for all to write to)
 #[derive(Drop)]
 pub(crate) struct Reserved<T, const N: usize> {
     items: Vec<T>,
@@ -66,6 +66,7 @@ impl<T, const N: usize> Reserved<T, N> {
         requires { length self.old + length more.now ≤ N }
         ensures { self.new ≡ self.old ++ more.now }
     {
+        // One by one, since the method of `Vec` may ask for memory.
         for item in more {
             self.push(*item);
         }

@@ -28,7 +28,7 @@ pub struct Needs {
     pub lines: Set64,
 }
 
-// steps of the book, from a place on
+// steps of the book, from a place on: those of all formulas lie in one list, whose memory was taken when the draft was opened
 #[derive(Clone, Copy)]
 pub struct Span {
     pub start: usize,

@@ -83,7 +83,7 @@ fn join_units(op: Op, a: Unit, b: Unit) -> Result<Unit, Refusal>
     }
 }
 
-// The unit of a number, or of the entry or the line.
+// The unit of a number, or of the entry or the line; (0, 0) where there is none, which no formula of a book comes to.
 fn operand_unit(book: &Book, step: Step) -> Unit
     ensures { result ≡ step_unit (units book.now.entries book.now.lines) step }
 {

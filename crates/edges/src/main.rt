@@ -26,6 +26,7 @@ fn value(mantissa: i32, exponent: i32) -> Option<Sig> {
     Some(value)
 }
 
+// (The type is of another crate, so it has no `FromStr` here.)
 fn sign(word: &str) -> Option<Sign> {
     match word {
         "+" => Some(Sign::Plus),

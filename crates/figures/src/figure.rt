@@ -52,6 +52,7 @@ pub fn figure(form: FormName, working: Working<'_>) -> Result<Ends, Refusal>
     ensures answer { Related Reads result (comes_in form (chained working.entry)) }
     ensures stand { AllStand known }
 {
+    // A name is a value and a form is a type: here, and in `verdict`, the one becomes the other.
     match form {
         FormName::Mil => read::<Mil>(working),
         FormName::Sig => read::<Sig>(working),

@@ -7,7 +7,7 @@ mod figure;
 mod text;
 
 use anyhow::Context;
-use entry::{Entry, FormName, Link, Operand, Working};
+use entry::{Entry, FormName, Operand, Working};
 use figure::{figure, verdict};
 use numbers::Refusal;
 use ranges::{Kind, Sign};

@@ -25,6 +25,7 @@ impl fmt::Display for Decimal {
         if rest > 0 {
             write!(f, ".")?;
         }
+        // By hand, since no format of the library leaves out zeros at the end.
         for place in [100_000u64, 10_000, 1_000, 100, 10, 1] {
             if rest > 0 {
                 let digit = rest / place;

@@ -1,5 +1,6 @@
 -- How long the names and how large the numbers of a line are.
 use Rattle.std.proofs.Common.{◌≡◌, ℕ, zero, suc, ◌+◌, ◌<◌, ◌≤◌, Bool, true, false, cond, ◌&&◌, eqb, leb, List, [], ◌∷◌, length, get_or, take, drop, ℤ, Some, None, Option, unwrap_or, option_map, sym, refl, ap, ◌∙◌, subst, arith, leb-true, length-take}
+use Rattle.std.proofs.lemmas.Bool.{false≢true}
 use Rattle.std.specs.Str.Parse.{AllDigits}
 use Rattle.std.specs.Char.{is_ascii_digit, is_ascii_alphabetic, is_ascii_alphanumeric}
 use Rattle.std.specs.List.{prefix_len}
@@ -158,7 +159,7 @@ line_small line s l = stated_small l (parts_small line)
 
 -- what a line declares is a name
 pub line_names : (ts : List Tok) (s : Stated) → Line ts s → (n : List ℕ) → declares s ≡ Some n → word_of n ≡ words.Name
-line_names ts s Line.blank n e = let z : ◌≡◌ {A = ℕ} 0 1 = cc in absurd (omega arith)
+line_names ts s Line.blank n e = absurd (false≢true cc)
 line_names ts s (Line.entry {n = m} f g h) n e = let q : m ≡ n = cc in subst (λ x. word_of x ≡ words.Name) q g
 line_names ts s (Line.line {n = m} f g x) n e = let q : m ≡ n = cc in subst (λ x. word_of x ≡ words.Name) q g
 line_names ts s (Line.rule {n = m} f g x y) n e = let q : m ≡ n = cc in subst (λ x. word_of x ≡ words.Name) q g

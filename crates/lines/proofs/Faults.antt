@@ -1,6 +1,6 @@
 -- The refusals of the table are the faults of the grammar.
 use Rattle.std.proofs.Common.{◌≡◌, ℕ, suc, ◌+◌, ◌-◌, ◌<◌, ◌≤◌, Bool, true, false, cond, eqb, ◌⊎◌, List, [], ◌∷◌, ◌++◌, length, is_ok, Ok, Err, codes, Result, sym, refl, ap, ◌∙◌, subst, inl, inr, ⊎_elim, append_assoc, append-nil, arith, ltb-false, ltb-true, le-ltb, lt-ltb, ne_eqb, eqb-true, MatchResult}
-use borrow.Author.Tests.{clash}
+use Rattle.std.proofs.lemmas.Bool.{false≢true}
 use Rattle.lines.specs.declared.reader.Raw.{Raw}
 use Rattle.lines.specs.declared.refusal.Refusal.{Refusal}
 use Rattle.lines.specs.declared.refusal.Refusal.TheVariants as refusal
@@ -13,7 +13,7 @@ use Rattle.lines.specs.Tokens.{Tok, parts}
 use Rattle.lines.specs.Words.{word_of}
 use Rattle.lines.specs.Grammar.{Item, Stated, Line}
 use Rattle.lines.specs.Expected.{Kind, Paren, Side, State, Move, kind_of, word_kind, kind_number, same, among, operands, table, leave, at_end, move_on, few, outcome_in, outcome}
-use Rattle.lines.specs.Reading.{items, code, plain, Ends, Read}
+use Rattle.lines.specs.Reading.{items, code, plain, Adds, Read, Ends}
 use Rattle.lines.specs.Faults.{Begins, now_open, open_after, ShallowFrom, Shallow, some_number, stands, Clean, Fault, Refused}
 use Rattle.lines.proofs.Joins.{follow, sign_low}
 use Rattle.lines.proofs.Grammar.{line_runs, lines_sound, is_sign}
@@ -216,9 +216,9 @@ formed s t w as_is right = go (move_on s (kind_of t)) refl (good s (kind_of t) w
   where
     go : (m : Move) → move_on s (kind_of t) ≡ m → Good s (kind_number (kind_of t)) m → Turn s t
     go (Move.to next) e g = goes next e g.0 as_is g.1 (g.2 ∙ ap (λ b. cond b (height s + 1) (cond (eqb (kind_number (kind_of t)) 5) (height s - 1) (height s))) (sym g.0)) (subst (λ n. n ≤ height s) (sym g.2) (lower (eqb (kind_number (kind_of t)) 5) (height s)))
-    go (Move.enter k side ps) e g = ⊎_elim (λ q. opens k side ps e q g.1 g.2) (λ q. absurd (clash (sym q ∙ g.0))) (is_sign signs.Open t)
+    go (Move.enter k side ps) e g = ⊎_elim (λ q. opens k side ps e q g.1 g.2) (λ q. absurd (false≢true (sym q ∙ g.0))) (is_sign signs.Open t)
     go (Move.refuse x) e (inl q) = stops (e ∙ ap Move.refuse q) (ap (λ y. move_on s (kind_of y)) as_is ∙ e ∙ ap Move.refuse q)
-    go (Move.refuse x) e (inr q) = absurd (clash (sym right ∙ q))
+    go (Move.refuse x) e (inr q) = absurd (false≢true (sym right ∙ q))
 
 turn : (s : State) (t : Tok) → Well s → Turn s t
 turn s (Tok.word v) w = formed s (Tok.word v) w refl (word_formed (word_of v))
@@ -402,10 +402,10 @@ part_only {s = s} t us r (stops e f) c = r.narrow (t ∷ us) ∙ follow few s t 
 part_only {ts} {s} t us r (spoils next q e f) c = absurd (c (subst (λ x. Begins (ts ++ stands x ∷ [])) (sym q) (begun_more some_number next r (λ rest. follow always s some_number rest _ f))))
 
 nesting_only : {ts : List Tok} {s : State} (us : List Tok) → Reached ts s → Turn s (Tok.sign signs.Open) → Begins (ts ++ Tok.sign signs.Open ∷ []) → open_after 0 ts ≡ 16 → outcome State.start (ts ++ Tok.sign signs.Open ∷ us) ≡ 3
-nesting_only us r (goes next e o a w h l) b n = absurd (clash (sym o))
+nesting_only us r (goes next e o a w h l) b n = cc
 nesting_only {s = s} us r (opens k side ps e q x h) b n = r.narrow (Tok.sign signs.Open ∷ us) ∙ follow few s (Tok.sign signs.Open) us _ e ∙ ap (λ y. cond y (outcome (State.operand side (k ∷ ps)) us) 3) (le-ltb (length ps) 16 (omega (arith, r.high, h, n)))
 nesting_only us r (stops e f) b n = absurd (none_begins (Tok.sign signs.Open) r e b)
-nesting_only us r (spoils next q e f) b n = let z : ◌≡◌ {A = ℕ} 0 1 = cc in absurd (omega arith)
+nesting_only us r (spoils next q e f) b n = absurd (false≢true cc)
 
 digits_only : {ts : List Tok} {s : State} (us : List Tok) → Reached ts s → Begins (ts ++ some_number ∷ []) → outcome State.start (ts ++ Tok.malformed ∷ us) ≡ 4
 digits_only {s = s} us r b = ⊎_elim (λ p. r.narrow (Tok.malformed ∷ us) ∙ follow few s Tok.malformed us _ p.0) (λ p. absurd (none_begins some_number r p.1 b)) (numbers s)
@@ -427,10 +427,10 @@ fault_only ts e (Fault.digits before after q c b) = ap (outcome State.start) q �
 
 -- no fault is one of the text
 formless : {ts : List Tok} {e : Refusal} → Fault ts e → e ≡ refusal.Text → ⊥
-formless (Fault.part before after t q c n) h = let z : ◌≡◌ {A = ℕ} 0 1 = cc in omega arith
-formless (Fault.ends c n) h = let z : ◌≡◌ {A = ℕ} 0 1 = cc in omega arith
-formless (Fault.nesting before after q c b n) h = let z : ◌≡◌ {A = ℕ} 0 1 = cc in omega arith
-formless (Fault.digits before after q c b) h = let z : ◌≡◌ {A = ℕ} 0 1 = cc in omega arith
+formless (Fault.part before after t q c n) h = false≢true cc
+formless (Fault.ends c n) h = false≢true cc
+formless (Fault.nesting before after q c b n) h = false≢true cc
+formless (Fault.digits before after q c b) h = false≢true cc
 
 refused_by : (line : List ℕ) (e : Refusal) → plain line ≡ true → Fault (parts line) e → Refused line e
 refused_by line refusal.Text p f = absurd (formless f refl)
@@ -439,7 +439,7 @@ refused_by line refusal.Nesting p f = (p, f)
 refused_by line refusal.Digits p f = (p, f)
 
 refused_code : (line : List ℕ) (e : Refusal) → plain line ≡ true → Refused line e → outcome State.start (parts line) ≡ code e
-refused_code line refusal.Text p r = absurd (clash (sym r ∙ p))
+refused_code line refusal.Text p r = cc
 refused_code line refusal.Grammar p r = fault_only (parts line) refusal.Grammar r.1
 refused_code line refusal.Nesting p r = fault_only (parts line) refusal.Nesting r.1
 refused_code line refusal.Digits p r = fault_only (parts line) refusal.Digits r.1
@@ -447,14 +447,14 @@ refused_code line refusal.Digits p r = fault_only (parts line) refusal.Digits r.
 -- a line that is not plain is refused for its text alone
 text_only : (line : List ℕ) → plain line ≡ false → (e : Refusal) → Refused line e → refusal.Text ≡ e
 text_only line p refusal.Text r = refl
-text_only line p refusal.Grammar r = absurd (clash (sym p ∙ r.0))
-text_only line p refusal.Nesting r = absurd (clash (sym p ∙ r.0))
-text_only line p refusal.Digits r = absurd (clash (sym p ∙ r.0))
+text_only line p refusal.Grammar r = cc (sym p ∙ r.0)
+text_only line p refusal.Nesting r = cc (sym p ∙ r.0)
+text_only line p refusal.Digits r = cc (sym p ∙ r.0)
 
 -- what the table says of a plain line
-pub settled : (line now : List ℕ) (r : Result Statement Refusal) (xs ys : List Raw) → plain line ≡ true → now ≡ line → ys ≡ xs → Ends State.start (parts line) r (λ s. Read (items now xs) (parts line) s) → MatchResult r (λ s. Read (items line ys) (parts line) s × (plain line ≡ true) × Shallow (parts line)) (λ e. Refused line e)
-settled line now (Ok x) xs ys p q e h = (subst (λ l. Read l (parts line) x) (λ i. items (q i) (sym e i)) h.0, p, shallow_line (parts line) h.1)
-settled line now (Err d) xs ys p q e h = refused_by line d p (faulted (parts line) d h)
+pub settled : (line now : List ℕ) (r : Result Statement Refusal) (before : List Item) (xs ys : List Raw) → plain line ≡ true → before ≡ [] → now ≡ line → ys ≡ xs → Ends State.start (parts line) r (λ s. Adds line before (items now xs) (parts line) s) → MatchResult r (λ s. Read line (items line ys) (parts line) s × (plain line ≡ true) × Shallow (parts line)) (λ e. Refused line e)
+settled line now (Ok x) before xs ys p b q e h = (subst {A = List Item × List Item} (λ l. Adds line l.0 l.1 (parts line) x) (λ i. (b i, items (q i) (sym e i))) h.0, p, shallow_line (parts line) h.1)
+settled line now (Err d) before xs ys p b q e h = refused_by line d p (faulted (parts line) d h)
 
 -- a line with few open parentheses is not refused
 unrefused : (line : List ℕ) (e : Refusal) → plain line ≡ true → Refused line e → (s : Stated) → Line (parts line) s → Shallow (parts line) → ⊥
@@ -472,14 +472,14 @@ one_refusal line refusal.Nesting e r f = same_code refusal.Nesting e (sym (refus
 one_refusal line refusal.Digits e r f = same_code refusal.Digits e (sym (refused_code line refusal.Digits r.0 r) ∙ refused_code line e r.0 f)
 
 -- what is read is a line
-stated : (steps : List Item) (ts : List Tok) (x : Statement) → Read steps ts x → (s : Stated) × Line ts s
-stated steps ts st.Blank r = (_, r.0)
-stated steps ts (st.Entry n u) r = (_, r.0)
-stated steps ts (st.Line n) r = (_, r.1)
-stated steps ts (st.Rule n root split) r = (_, r.2)
+stated : (line : List ℕ) (steps : List Item) (ts : List Tok) (x : Statement) → Read line steps ts x → (s : Stated) × Line ts s
+stated line steps ts st.Blank r = (_, r.0)
+stated line steps ts (st.Entry n u) r = (_, r.0)
+stated line steps ts (st.Line n) r = (_, r.1)
+stated line steps ts (st.Rule n root split) r = (_, r.2)
 
-pub refused_once : (line : List ℕ) (steps : List Item) (r : Result Statement Refusal) → MatchResult r (λ s. Read steps (parts line) s × (plain line ≡ true) × Shallow (parts line)) (λ e. Refused line e) → (e : Refusal) → Refused line e → r ≡ Err e
+pub refused_once : (line : List ℕ) (steps : List Item) (r : Result Statement Refusal) → MatchResult r (λ s. Read line steps (parts line) s × (plain line ≡ true) × Shallow (parts line)) (λ e. Refused line e) → (e : Refusal) → Refused line e → r ≡ Err e
 refused_once line steps (Ok x) h e f =
-    let l = stated steps (parts line) x h.0 in
+    let l = stated line steps (parts line) x h.0 in
     absurd (unrefused line e h.1 f l.0 l.1 h.2)
 refused_once line steps (Err d) h e f = ap Err (one_refusal line d e h f)

@@ -1,6 +1,6 @@
 -- How the readings of parts join to the reading of a whole, and how the refusal of a part is that of the whole.
 use Rattle.std.proofs.Common.{◌≡◌, ℕ, ◌-◌, ◌<◌, ◌≤◌, Bool, true, false, cond, ◌||◌, eqb, List, [], ◌∷◌, ◌++◌, length, ℤ, IsErrAnd, Ok, Err, Result, sym, refl, ap, ◌∙◌, subst, append_assoc, arith, ne_eqb, vec_items, MatchResult}
-use borrow.Author.Tests.{clash}
+use Rattle.std.proofs.lemmas.Bool.{false≢true}
 use Rattle.std.proofs.lemmas.List.{map_push}
 use Rattle.std.proofs.lemmas.Result.{MatchResult-weaker}
 use Rattle.lines.specs.declared.reader.Op.{Op}
@@ -117,17 +117,17 @@ or_left true b e = e
 or_left false b e = refl
 
 or_right : (a b : Bool) → (a || b) ≡ false → b ≡ false
-or_right true b e = absurd (clash (sym e))
+or_right true b e = cc
 or_right false b e = e
 
 -- where no sign of the list begins the parts, the first part is of no such kind
 begins_off : (s : Sign) (ss : List Sign) (t : Tok) (ts : List Tok) → begins (s ∷ ss) (t ∷ ts) ≡ false → same (kind_of t) (Kind.sign s) ≡ false
-begins_off s ss (Tok.word w) ts e = not_sign s (Tok.word w) (λ q. let z : ◌≡◌ {A = ℕ} 0 1 = cc in omega arith)
-begins_off s ss (Tok.number n u) ts e = not_sign s (Tok.number n u) (λ q. let z : ◌≡◌ {A = ℕ} 0 1 = cc in omega arith)
-begins_off s ss Tok.malformed ts e = not_sign s Tok.malformed (λ q. let z : ◌≡◌ {A = ℕ} 0 1 = cc in omega arith)
+begins_off s ss (Tok.word w) ts e = not_sign s (Tok.word w) (λ q. false≢true cc)
+begins_off s ss (Tok.number n u) ts e = not_sign s (Tok.number n u) (λ q. false≢true cc)
+begins_off s ss Tok.malformed ts e = not_sign s Tok.malformed (λ q. false≢true cc)
 begins_off s ss (Tok.sign x) ts e = or_left (eqb (sign_number x) (sign_number s)) (is_one x ss) e
-begins_off s ss Tok.other ts e = not_sign s Tok.other (λ q. let z : ◌≡◌ {A = ℕ} 0 1 = cc in omega arith)
-begins_off s ss Tok.ends ts e = not_sign s Tok.ends (λ q. let z : ◌≡◌ {A = ℕ} 0 1 = cc in omega arith)
+begins_off s ss Tok.other ts e = not_sign s Tok.other (λ q. false≢true cc)
+begins_off s ss Tok.ends ts e = not_sign s Tok.ends (λ q. false≢true cc)
 
 begins_rest : (s : Sign) (ss : List Sign) (ts : List Tok) → begins (s ∷ ss) ts ≡ false → begins ss ts ≡ false
 begins_rest s ss [] e = refl

@@ -68,6 +68,10 @@ factors = signs.Times ∷ signs.Over ∷ []
 abbrev pub joins : List Sign
 joins = signs.Plus ∷ signs.Minus ∷ signs.Times ∷ signs.Over ∷ []
 
+-- what has to come next is there, as P says, or it is not, as N says, and the grammar allows nothing else
+abbrev pub Wants : {X : Type 0} → Result X Refusal → (X → Type 0) → Type 0 → Type 0
+Wants r P N = MatchResult r P (λ e. (e ≡ refusal.Grammar) × N)
+
 -- a formula was read from the parts `from`, and `rest` follows it, which goes on with none of the signs `on`; `left` more parentheses may open
 pub record Reads (R : List Tok → List Tok → Tree → Type 0) (on : List Sign) (left : ℕ) (from rest : List Tok) (before now : List Item) : Type 0 where
   pub tree : Tree
@@ -116,6 +120,10 @@ ahead r = parts (drop r.at r.line.now)
 abbrev pub written : Reader → List Item
 written r = items r.line.now (vec_items r.steps.now.raw)
 
+-- the steps of the tree were written
+abbrev pub Writes : Tree → Reader → Reader → Type 0
+Writes t before after = written after ≡ written before ++ postfix t
+
 -- the same line is read, into the same steps
 abbrev pub Keeps : Reader → Reader → Type 0
 Keeps before after = (after.line.now ≡ before.line.now) × (after.steps.ghost_name ≡ before.steps.ghost_name)
@@ -137,12 +145,16 @@ Advances r before after = Keeps before after × IfOk r (λ _. Moves before after
 abbrev pub Formula : {X : Type 0} → (List Tok → List Tok → Tree → Type 0) → List Sign → ℕ → List Tok → Result X Refusal → Reader → Reader → Type 0
 Formula R on left from r before after = MatchResult r (λ _. Reads R on left from (ahead after) (written before) (written after)) (λ e. Refuses left from e)
 
--- what was read, with its steps, is what the parts ts state
-abbrev pub Read : List Item → List Tok → Statement → Type 0
-Read steps ts st.Blank = Line ts Stated.blank × (steps ≡ [])
-Read steps ts (st.Entry name u) = Line ts (Stated.entry name.now u) × (steps ≡ [])
-Read steps ts (st.Line name) = (t : Tree) × Line ts (Stated.line name.now t) × (steps ≡ postfix t)
-Read steps ts (st.Rule name root split) = (t : Tree) × (u : Tree) × Line ts (Stated.rule name.now root t u) × (steps ≡ postfix t ++ postfix u) × (split ≡ length (postfix t))
+-- what was read, with its texts in the line, is what the parts ts state, and its steps are now after those before
+abbrev pub Adds : List ℕ → List Item → List Item → List Tok → Statement → Type 0
+Adds line before now ts st.Blank = Line ts Stated.blank × (now ≡ before)
+Adds line before now ts (st.Entry name u) = Line ts (Stated.entry (text_at line name) u) × (now ≡ before)
+Adds line before now ts (st.Line name) = (t : Tree) × Line ts (Stated.line (text_at line name) t) × (now ≡ before ++ postfix t)
+Adds line before now ts (st.Rule name root split) = (t : Tree) × (u : Tree) × Line ts (Stated.rule (text_at line name) root t u) × (now ≡ (before ++ postfix t) ++ postfix u) × (split ≡ length (before ++ postfix t))
+
+-- the same, with no steps before
+abbrev pub Read : List ℕ → List Item → List Tok → Statement → Type 0
+Read line steps ts s = Adds line [] steps ts s
 
 -- parts up to the end were read from a state on, with no refusal; or the refusal is given
 abbrev pub Ends : {X : Type 0} → State → List Tok → Result X Refusal → (X → Type 0) → Type 0
@@ -150,7 +162,7 @@ Ends s ts r P = MatchResult r (λ x. P x × (outcome s ts ≡ 0)) (λ e. outcome
 
 -- what follows the word x was read from a state on, and is what the line states
 abbrev pub Follows : Word → State → Result Statement Refusal → Reader → Reader → Type 0
-Follows x s r before after = Ends s (ahead before) r (λ read. (k : List ℕ) → word_of k ≡ x → Read (written after) (Tok.word k ∷ ahead before) read)
+Follows x s r before after = Ends s (ahead before) r (λ read. (k : List ℕ) → word_of k ≡ x → Adds before.line.now (written before) (written after) (Tok.word k ∷ ahead before) read)
 
 -- the refusal where a sum up to the end has to come, as the formula of a line and as the right side of a rule
 abbrev pub Last : List Tok → ℕ → Type 0

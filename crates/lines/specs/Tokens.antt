@@ -1,7 +1,8 @@
 -- The parts of a book line, from its bytes.
-use Rattle.std.specs.Prelude.{◌≡◌, ℕ, zero, suc, ◌+◌, ◌-◌, ◌*◌, ◌^◌, Bool, if◌then◌else◌, ◌&&◌, List, [], ◌∷◌, length, take, drop, ℤ, pos, is_some, Some, None, Option, ◌==◌, nat_le, slice_index}
+use Rattle.std.specs.Prelude.{◌≡◌, ℕ, zero, suc, ◌+◌, ◌-◌, ◌*◌, ◌^◌, ◌≤◌, Bool, if◌then◌else◌, ◌&&◌, List, [], ◌∷◌, length, take, drop, ℤ, pos, is_some, Some, None, Option, ◌==◌, nat_le, slice_index}
 use Rattle.std.specs.Char.{is_ascii_digit, is_ascii_alphabetic, is_ascii_alphanumeric}
 use Rattle.std.specs.List.{prefix_len}
+use Rattle.lines.specs.declared.token.Part.{Part}
 use Rattle.lines.specs.declared.token.Sign.{Sign}
 use Rattle.lines.specs.declared.token.Sign.TheVariants as signs
 use Rattle.lines.specs.declared.token.Token.{Token}
@@ -46,6 +47,10 @@ sign_of b next =
     else (if b == 58 then Some signs.Colon
     else (if b == 60 && next == 61 then Some signs.AtMost
     else None)))))))))
+
+-- the sign at the front, if one stands there
+abbrev pub front_sign : List ℕ → Option Sign
+front_sign bs = sign_of (slice_index bs 0) (slice_index bs 1)
 
 -- how many digits stand before the point, whether a point follows them, and how many digits follow it
 abbrev pub whole : List ℕ → ℕ
@@ -133,7 +138,7 @@ part bs =
     if length bs == 0 then ends
     else (if is_ascii_alphabetic (slice_index bs 0) then word (take (prefix_len is_ascii_alphanumeric bs) bs)
     else (if is_ascii_digit (slice_index bs 0) then number_tok bs
-    else sign_tok (sign_of (slice_index bs 0) (slice_index bs 1))))
+    else sign_tok (front_sign bs)))
 
 -- how many bytes it has
 abbrev pub width : List ℕ → ℕ
@@ -141,7 +146,7 @@ width bs =
     if length bs == 0 then 0
     else (if is_ascii_alphabetic (slice_index bs 0) then prefix_len is_ascii_alphanumeric bs
     else (if is_ascii_digit (slice_index bs 0) then number_width bs
-    else sign_width (sign_of (slice_index bs 0) (slice_index bs 1))))
+    else sign_width (front_sign bs)))
 
 -- the bytes from the first that is no blank
 abbrev pub unblank : List ℕ → List ℕ
@@ -203,3 +208,11 @@ Placed line (token.Malformed p) = Lies line p.text.now p.start
 Placed line (token.Sign s at) = Unit {0}
 Placed line (token.Other at) = Unit {0}
 Placed line (token.End at) = Unit {0}
+
+-- what is cut from the front of these bytes is the part t: it has n of them, starts where they do, and lies in each line that has them there
+pub record Cuts (from : Part) (t : Tok) (n : ℕ) (cut : Token × ℕ) : Type 0 where
+  pub token : tok cut.0 ≡ t
+  pub width : cut.1 ≡ n
+  pub bound : cut.1 ≤ length from.text.now
+  pub place : place cut.0 ≡ from.start
+  pub lies : (line : List ℕ) → from.text.now ≡ drop from.start line → Placed line cut.0

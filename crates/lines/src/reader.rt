@@ -85,11 +85,11 @@ pub(crate) struct Reader<'a, 's> {
 }
 
 impl<'a, 's> Reader<'a, 's> {
-    ghost use Rattle.std.specs.Prelude.{◌≡◌, ℕ, ◌+◌, ◌<◌, ◌≤◌, List, [], ◌∷◌, ◌++◌, MatchResult, IfOk, ◌≢◌};
+    ghost use Rattle.std.specs.Prelude.{◌≡◌, ℕ, ◌+◌, ◌<◌, ◌≤◌, List, [], ◌∷◌, ◌++◌, IfOk, ◌≢◌};
     ghost use Rattle.lines.specs.Tokens.{Tok, tok, up_to, least, Placed};
     ghost use Rattle.lines.specs.Words.{word_of};
     ghost use Rattle.lines.specs.Grammar.{Sum, Product, Factor, Function};
-    ghost use Rattle.lines.specs.Reading.{ahead, Takes, Advances, Formula, Joined, Operand, rank_signs, tight, factors, joins};
+    ghost use Rattle.lines.specs.Reading.{Wants, ahead, Takes, Advances, Formula, Joined, Operand, rank_signs, tight, factors, joins};
 
     // The next part, which is then read.
     pub(crate) fn next(&mut self) -> Token<'a>
@@ -105,7 +105,7 @@ impl<'a, 's> Reader<'a, 's> {
 
     // Reads the sign, which has to come next.
     pub(crate) fn expect(&mut self, wanted: Sign) -> Result<(), Refusal>
-        ensures sign { MatchResult result (λ _. ahead self.old ≡ Tok.sign wanted ∷ ahead self.new) (λ e. (e ≡ Refusal.Grammar) × ((ts : List Tok) → ahead self.old ≢ Tok.sign wanted ∷ ts)) }
+        ensures sign { Wants result (λ _. ahead self.old ≡ Tok.sign wanted ∷ ahead self.new) ((ts : List Tok) → ahead self.old ≢ Tok.sign wanted ∷ ts) }
         ensures takes { Takes self.old self.new }
         ensures moves { IfOk result (λ _. self.old.at < self.new.at) }
     {
@@ -146,9 +146,18 @@ impl<'a, 's> Reader<'a, 's> {
                 return Ok(());
             };
             self.at = after;
-            self.operand(rank, left)?;
+            self.after_sign(rank, left)?;
             self.steps.push(Raw::Op(op));
         }
+    }
+
+    // What a sign of the rank joins to what stands left of it: one operand, since signs of one rank join from the left.
+    #[cycle(formula)]
+    fn after_sign(&mut self, of: Rank, left: usize) -> Result<(), Refusal>
+        ensures reads { Formula (Operand of) (tight of) left (ahead self.old) result self.old self.new }
+        ensures moves { Advances result self.old self.new }
+    {
+        self.operand(of, left)
     }
 
     // What a sign of the rank joins.

@@ -1,33 +1,34 @@
 // Reads a whole book line by the grammar.
-ghost use Rattle.std.specs.Prelude.{◌≡◌, ℕ, ◌≤◌, true, ◌&&◌, length, nat_le, List, [], ◌∷◌, ◌++◌, ℤ, is_ok, is_err, IfOk, Err, vec_len, MatchResult, OnOk, ◌≢◌};
-ghost use Rattle.lines.specs.Tokens.{Tok, tok, parts};
+ghost use Rattle.std.specs.Prelude.{◌≡◌, ℕ, ◌≤◌, true, length, nat_le, List, [], ◌∷◌, ◌++◌, ℤ, is_ok, is_err, Err, vec_len, MatchResult, OnOk, ◌≢◌};
+ghost use Rattle.lines.specs.Tokens.{Tok, tok, parts, Lies};
 ghost use Rattle.lines.specs.Words.{word_of};
 ghost use Rattle.lines.specs.Faults.{Shallow, Refused};
-ghost use Rattle.lines.specs.Grammar.{Tree, postfix, Sum, Right, Stated, Line};
+ghost use Rattle.lines.specs.Grammar.{Tree, Sum, Right, Stated, Line};
 ghost use Rattle.lines.specs.Expected.{Kind, Paren, Side, State, kind_of, same};
-ghost use Rattle.lines.specs.Reading.{items, code, ahead, written, Keeps, Takes, Formula, Read, Ends, Follows, Last, joins, plain};
+ghost use Rattle.lines.specs.Reading.{Wants, text_at, items, code, ahead, written, Writes, Keeps, Takes, Formula, Adds, Read, Ends, Follows, Last, joins, plain};
 
-use crate::reader::Reader;
+use crate::reader::{Place, Reader};
 use crate::refusal::Refusal;
 use crate::steps::{MAX_LEN, Steps};
-use crate::token::{Sign, Token, next_token};
+use crate::token::{Part, Sign, Token, next_token};
 use crate::word::{Unit, Word, word_of};
 
 // how many parentheses may be open at once
 const MAX_OPEN: usize = 16;
 
+// what a line states; names by their places, so that it does not hold the line
 #[derive(Clone, Copy)]
-pub enum Statement<'a> {
+pub enum Statement {
     Blank,
     Entry {
-        name: &'a [u8],
+        name: Place,
         unit: Unit,
     },
     Line {
-        name: &'a [u8],
+        name: Place,
     },
     Rule {
-        name: &'a [u8],
+        name: Place,
         // the right side is under a root
         root: bool,
         // how many steps the left side has
@@ -46,31 +47,31 @@ fn is_root(token: Token<'_>) -> bool
 
 #[tactic(auto, using(crate::proofs::Lines::refusals))]
 impl<'a, 's> Reader<'a, 's> {
-    // The word that has to come next, and what it is.
-    fn word(&mut self) -> Result<(Word, &'a [u8]), Refusal>
-        ensures word { MatchResult result (λ x. (ahead self.old ≡ Tok.word x.1.now ∷ ahead self.new) × (word_of x.1.now ≡ x.0)) (λ e. (e ≡ Refusal.Grammar) × ((w : List ℕ) (ts : List Tok) → ahead self.old ≢ Tok.word w ∷ ts)) }
+    // What the word is that has to come next, and where it stands.
+    fn word(&mut self) -> Result<(Word, Part<'a>), Refusal>
+        ensures word { Wants result (λ x. (ahead self.old ≡ Tok.word x.1.text.now ∷ ahead self.new) × (word_of x.1.text.now ≡ x.0) × Lies self.new.line.now x.1.text.now x.1.start) ((w : List ℕ) (ts : List Tok) → ahead self.old ≢ Tok.word w ∷ ts) }
         ensures takes { Takes self.old self.new }
     {
         match self.next() {
-            Token::Word(part) => Ok((word_of(part.text), part.text)),
+            Token::Word(part) => Ok((word_of(part.text), part)),
             _ => Err(Refusal::Grammar),
         }
     }
 
-    // The name that has to come next.
-    fn name(&mut self) -> Result<&'a [u8], Refusal>
-        ensures name { MatchResult result (λ n. (ahead self.old ≡ Tok.word n.now ∷ ahead self.new) × (word_of n.now ≡ Word.Name)) (λ e. (e ≡ Refusal.Grammar) × ((w : List ℕ) (ts : List Tok) → ahead self.old ≡ Tok.word w ∷ ts → word_of w ≢ Word.Name)) }
+    // Where the name stands that has to come next.
+    fn name(&mut self) -> Result<Place, Refusal>
+        ensures name { Wants result (λ p. (ahead self.old ≡ Tok.word (text_at self.old.line.now p) ∷ ahead self.new) × (word_of (text_at self.old.line.now p) ≡ Word.Name)) ((w : List ℕ) (ts : List Tok) → ahead self.old ≡ Tok.word w ∷ ts → word_of w ≢ Word.Name) }
         ensures takes { Takes self.old self.new }
     {
         match self.word()? {
-            (Word::Name, text) => Ok(text),
+            (Word::Name, part) => Ok(part.into()),
             _ => Err(Refusal::Grammar),
         }
     }
 
     // The unit word that has to come next.
     fn unit(&mut self) -> Result<Unit, Refusal>
-        ensures unit { MatchResult result (λ u. (w : List ℕ) × (ahead self.old ≡ Tok.word w ∷ ahead self.new) × (word_of w ≡ Word.Unit u)) (λ e. (e ≡ Refusal.Grammar) × ((w : List ℕ) (u : ℤ × ℤ) (ts : List Tok) → ahead self.old ≡ Tok.word w ∷ ts → word_of w ≢ Word.Unit u)) }
+        ensures unit { Wants result (λ u. (w : List ℕ) × (ahead self.old ≡ Tok.word w ∷ ahead self.new) × (word_of w ≡ Word.Unit u)) ((w : List ℕ) (u : ℤ × ℤ) (ts : List Tok) → ahead self.old ≡ Tok.word w ∷ ts → word_of w ≢ Word.Unit u) }
         ensures takes { Takes self.old self.new }
     {
         match self.word()? {
@@ -81,7 +82,7 @@ impl<'a, 's> Reader<'a, 's> {
 
     // Nothing comes any more.
     fn end(&self) -> Result<(), Refusal>
-        ensures { MatchResult result (λ _. ahead self.now ≡ []) (λ e. (e ≡ Refusal.Grammar) × (ahead self.now ≢ [])) }
+        ensures { Wants result (λ _. ahead self.now ≡ []) (ahead self.now ≢ []) }
     {
         match next_token(self.line, self.at) {
             (Token::End(_), _) => Ok(()),
@@ -90,8 +91,7 @@ impl<'a, 's> Reader<'a, 's> {
     }
 
     // What follows the word entry.
-    fn entry(&mut self) -> Result<Statement<'a>, Refusal>
-        requires { written self.old ≡ [] }
+    fn entry(&mut self) -> Result<Statement, Refusal>
         ensures reads { Follows Word.Entry State.entry_name result self.old self.new }
         ensures keeps { Keeps self.old self.new }
     {
@@ -111,7 +111,7 @@ impl<'a, 's> Reader<'a, 's> {
 
     // A sum up to the end.
     fn last_sum(&mut self) -> Result<(), Refusal>
-        ensures reads { MatchResult result (λ _. (t : Tree) × Sum (ahead self.old) [] t × (written self.new ≡ written self.old ++ postfix t) × Last (ahead self.old) 0) (λ e. Last (ahead self.old) (code e)) }
+        ensures reads { MatchResult result (λ _. (t : Tree) × Sum (ahead self.old) [] t × Writes t self.old self.new × Last (ahead self.old) 0) (λ e. Last (ahead self.old) (code e)) }
         ensures keeps { Keeps self.old self.new }
     {
         self.outer_sum()?;
@@ -119,8 +119,7 @@ impl<'a, 's> Reader<'a, 's> {
     }
 
     // What follows the word line.
-    fn formula_line(&mut self) -> Result<Statement<'a>, Refusal>
-        requires { written self.old ≡ [] }
+    fn formula_line(&mut self) -> Result<Statement, Refusal>
         ensures reads { Follows Word.Line State.line_name result self.old self.new }
         ensures keeps { Keeps self.old self.new }
     {
@@ -132,7 +131,7 @@ impl<'a, 's> Reader<'a, 's> {
 
     // What follows the word root: a sum in parentheses, up to the end.
     fn under_root(&mut self) -> Result<(), Refusal>
-        ensures reads { Ends (State.opening Paren.root Side.right []) (ahead self.old) result (λ _. (t : Tree) × ((w : List ℕ) → word_of w ≡ Word.Root → Right (Tok.word w ∷ ahead self.old) true t) × (written self.new ≡ written self.old ++ postfix t)) }
+        ensures reads { Ends (State.opening Paren.root Side.right []) (ahead self.old) result (λ _. (t : Tree) × ((w : List ℕ) → word_of w ≡ Word.Root → Right (Tok.word w ∷ ahead self.old) true t) × Writes t self.old self.new) }
         ensures keeps { Keeps self.old self.new }
     {
         self.expect(Sign::Open)?;
@@ -143,7 +142,7 @@ impl<'a, 's> Reader<'a, 's> {
 
     // The right side of a rule; the answer says whether it is under a root.
     fn right_side(&mut self) -> Result<bool, Refusal>
-        ensures reads { Ends State.right_side (ahead self.old) result (λ root. (t : Tree) × Right (ahead self.old) root t × (written self.new ≡ written self.old ++ postfix t)) }
+        ensures reads { Ends State.right_side (ahead self.old) result (λ root. (t : Tree) × Right (ahead self.old) root t × Writes t self.old self.new) }
         ensures keeps { Keeps self.old self.new }
     {
         let (token, after) = next_token(self.line, self.at);
@@ -157,8 +156,7 @@ impl<'a, 's> Reader<'a, 's> {
     }
 
     // What follows the word rule.
-    fn rule(&mut self) -> Result<Statement<'a>, Refusal>
-        requires { written self.old ≡ [] }
+    fn rule(&mut self) -> Result<Statement, Refusal>
         ensures reads { Follows Word.Rule State.rule_name result self.old self.new }
         ensures keeps { Keeps self.old self.new }
     {
@@ -172,9 +170,8 @@ impl<'a, 's> Reader<'a, 's> {
     }
 
     // The line by its first word; the steps of a rule's left side come first.
-    fn statement(&mut self) -> Result<Statement<'a>, Refusal>
-        requires { written self.old ≡ [] }
-        ensures reads { Ends State.start (ahead self.old) result (λ s. Read (written self.new) (ahead self.old) s) }
+    fn statement(&mut self) -> Result<Statement, Refusal>
+        ensures reads { Ends State.start (ahead self.old) result (λ s. Adds self.old.line.now (written self.old) (written self.new) (ahead self.old) s) }
         ensures keeps { Keeps self.old self.new }
     {
         match self.next() {
@@ -204,11 +201,11 @@ fn is_plain(line: &[u8]) -> bool
 }
 
 // Reads a line of plain text; what a refusal leaves in the steps is not said.
-fn read_plain<'a>(line: &'a [u8], steps: &mut Steps) -> Result<Statement<'a>, Refusal>
+fn read_plain(line: &[u8], steps: &mut Steps) -> Result<Statement, Refusal>
     requires plain { plain line.now ≡ true }
     requires empty { steps.old.raw.items ≡ [] }
     ensures room { OnOk result (vec_len steps.new.raw ≤ 120) }
-    ensures reads { MatchResult result (λ s. Read (items line.now steps.new.raw.items) (parts line.now) s × (plain line.now ≡ true) × Shallow (parts line.now)) (λ e. Refused line.now e) }
+    ensures reads { MatchResult result (λ s. Read line.now (items line.now steps.new.raw.items) (parts line.now) s × (plain line.now ≡ true) × Shallow (parts line.now)) (λ e. Refused line.now e) }
 {
     let mut reader = Reader { line, at: 0, steps };
     reader.statement()
@@ -216,9 +213,9 @@ fn read_plain<'a>(line: &'a [u8], steps: &mut Steps) -> Result<Statement<'a>, Re
 
 // Reads one line: what it states, with the steps of its formulas, or its first fault, with no steps.
 #[tactic(auto, using(crate::proofs::Unique::unique, crate::proofs::Blanks::blank_cuts, crate::proofs::Faults::accepted))]
-pub fn read_line<'a>(line: &'a [u8], steps: &mut Steps) -> Result<Statement<'a>, Refusal>
+pub fn read_line(line: &[u8], steps: &mut Steps) -> Result<Statement, Refusal>
     ensures room { OnOk result (vec_len steps.new.raw ≤ 120) }
-    ensures reads { MatchResult result (λ s. Read (items line.now steps.new.raw.items) (parts line.now) s × (plain line.now ≡ true) × Shallow (parts line.now)) (λ e. Refused line.now e) }
+    ensures reads { MatchResult result (λ s. Read line.now (items line.now steps.new.raw.items) (parts line.now) s × (plain line.now ≡ true) × Shallow (parts line.now)) (λ e. Refused line.now e) }
     ensures left { is_err result ≡ true → steps.new.raw.items ≡ [] }
     ensures accepts { (s : Stated) → plain line.now ≡ true → Line (parts line.now) s → Shallow (parts line.now) → is_ok result ≡ true }
     ensures only { (e : Refusal) → Refused line.now e → result ≡ Err e }

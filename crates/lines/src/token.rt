@@ -1,7 +1,7 @@
 // The parts of a book line: words, numbers and signs, each with its place.
-ghost use Rattle.std.specs.Prelude.{◌≡◌, ℕ, ◌+◌, ◌^◌, ◌<◌, ◌≤◌, Bool, List, length, drop, slice_index};
+ghost use Rattle.std.specs.Prelude.{◌≡◌, ℕ, ◌+◌, ◌^◌, ◌<◌, ◌≤◌, Bool, length, drop};
 ghost use Rattle.std.specs.List.{prefix_len};
-ghost use Rattle.lines.specs.Tokens.{is_blank, sign_of, least, tok, place, number_tok, number_width, sign_tok, sign_width, part, width, front, after, parts, up_to, Placed};
+ghost use Rattle.lines.specs.Tokens.{is_blank, front_sign, least, tok, place, number_tok, number_width, sign_tok, sign_width, part, width, front, after, parts, up_to, Placed, Cuts};
 
 use crate::number::numeral;
 use crate::word::{Unit, unit_of};
@@ -20,14 +20,14 @@ pub enum Sign {
     AtMost,
 }
 
-// a part of the line, and where it starts
-#[derive(Clone, Copy, PartialEq, Eq, Debug)]
+// some bytes of the line, and where they start
+#[derive(Clone, Copy)]
 pub struct Part<'a> {
     pub text: &'a [u8],
     pub start: usize,
 }
 
-#[derive(Clone, Copy, PartialEq, Eq, Debug)]
+#[derive(Clone, Copy)]
 pub enum Token<'a> {
     Word(Part<'a>),
     // the digits with their point, their count of thousandths, and the unit
@@ -51,7 +51,7 @@ pub(crate) fn run_len<F: Fn(u8) -> bool>(bytes: &[u8], test: F) -> usize
 
 // The sign at the front.
 fn sign_of(bytes: &[u8]) -> Option<Sign>
-    ensures { result ≡ sign_of (slice_index bytes.now 0) (slice_index bytes.now 1) }
+    ensures { result ≡ front_sign bytes.now }
 {
     match bytes {
         [b'+', ..] => Some(Sign::Plus),
@@ -68,61 +68,52 @@ fn sign_of(bytes: &[u8]) -> Option<Sign>
     }
 }
 
-// The number at the front, and how many bytes it has with its unit.
-fn number_at(bytes: &[u8], start: usize) -> (Token<'_>, usize)
-    requires { start + length bytes.now < 2 ^ 63 }
-    ensures token { tok result.0 ≡ number_tok bytes.now }
-    ensures width { result.1 ≡ number_width bytes.now }
-    ensures bound { result.1 ≤ length bytes.now }
-    ensures place { place result.0 ≡ start }
-    ensures lies { (line : List ℕ) → bytes.now ≡ drop start line → Placed line result.0 }
-{
-    let (n, count) = numeral(bytes);
-    let (text, rest) = bytes.split_at(n);
-    let part = Part { text, start };
-    let Some(count) = count else {
-        return (Token::Malformed(part), n);
-    };
-    let (word, _) = rest.split_at(run_len(rest, |b| b.is_ascii_alphanumeric()));
-    match unit_of(word) {
-        Some(unit) => (Token::Number(part, count, unit), n + word.len()),
-        None => (Token::Number(part, count, (0, 0)), n),
-    }
-}
-
-// The sign at the front, if one stands there, and how many bytes it has.
-fn sign_at(bytes: &[u8], start: usize) -> (Token<'_>, usize)
-    requires { 0 < length bytes.now }
-    ensures token { tok result.0 ≡ sign_tok (sign_of (slice_index bytes.now 0) (slice_index bytes.now 1)) }
-    ensures width { result.1 ≡ sign_width (sign_of (slice_index bytes.now 0) (slice_index bytes.now 1)) }
-    ensures bound { result.1 ≤ length bytes.now }
-    ensures place { place result.0 ≡ start }
-    ensures lies { (line : List ℕ) → Placed line result.0 }
-{
-    match sign_of(bytes) {
-        Some(Sign::AtMost) => (Token::Sign(Sign::AtMost, start), 2),
-        Some(sign) => (Token::Sign(sign, start), 1),
-        None => (Token::Other(start), 1),
-    }
-}
-
-// The part at the front, where no blank stands, and how many bytes it has.
-fn part_at(bytes: &[u8], start: usize) -> (Token<'_>, usize)
-    requires { start + length bytes.now < 2 ^ 63 }
-    ensures token { tok result.0 ≡ part bytes.now }
-    ensures width { result.1 ≡ width bytes.now }
-    ensures bound { result.1 ≤ length bytes.now }
-    ensures place { place result.0 ≡ start }
-    ensures lies { (line : List ℕ) → bytes.now ≡ drop start line → Placed line result.0 }
-{
-    match bytes {
-        [] => (Token::End(start), 0),
-        [b, ..] if b.is_ascii_alphabetic() => {
-            let (text, _) = bytes.split_at(run_len(bytes, |b| b.is_ascii_alphanumeric()));
-            (Token::Word(Part { text, start }), text.len())
+impl<'a> Part<'a> {
+    // The number at the front, and how many bytes it has with its unit.
+    fn number(self) -> (Token<'a>, usize)
+        requires { self.start + length self.text.now < 2 ^ 63 }
+        ensures { Cuts self.entry (number_tok self.entry.text.now) (number_width self.entry.text.now) result }
+    {
+        let (n, count) = numeral(self.text);
+        let (text, rest) = self.text.split_at(n);
+        let part = Part { text, ..self };
+        let Some(count) = count else {
+            return (Token::Malformed(part), n);
+        };
+        let (word, _) = rest.split_at(run_len(rest, |b| b.is_ascii_alphanumeric()));
+        match unit_of(word) {
+            Some(unit) => (Token::Number(part, count, unit), n + word.len()),
+            None => (Token::Number(part, count, (0, 0)), n),
         }
-        [b, ..] if b.is_ascii_digit() => number_at(bytes, start),
-        _ => sign_at(bytes, start),
+    }
+
+    // The sign at the front, if one stands there, and how many bytes it has.
+    fn sign(self) -> (Token<'a>, usize)
+        requires { 0 < length self.text.now }
+        ensures { Cuts self.entry (sign_tok (front_sign self.entry.text.now)) (sign_width (front_sign self.entry.text.now)) result }
+    {
+        match sign_of(self.text) {
+            Some(Sign::AtMost) => (Token::Sign(Sign::AtMost, self.start), 2),
+            Some(sign) => (Token::Sign(sign, self.start), 1),
+            None => (Token::Other(self.start), 1),
+        }
+    }
+
+    // The token at the front, where no blank stands, and how many bytes it has.
+    fn token(self) -> (Token<'a>, usize)
+        requires { self.start + length self.text.now < 2 ^ 63 }
+        ensures { Cuts self.entry (part self.entry.text.now) (width self.entry.text.now) result }
+    {
+        match self.text {
+            [] => (Token::End(self.start), 0),
+            [b, ..] if b.is_ascii_alphabetic() => {
+                let n = run_len(self.text, |b| b.is_ascii_alphanumeric());
+                let text = &self.text[..n];
+                (Token::Word(Part { text, ..self }), n)
+            }
+            [b, ..] if b.is_ascii_digit() => self.number(),
+            _ => self.sign(),
+        }
     }
 }
 
@@ -148,6 +139,7 @@ pub(crate) fn next_token(line: &[u8], at: usize) -> (Token<'_>, usize)
     ensures lies { Placed line.now result.0 }
 {
     let start = skip_blanks(line, at);
-    let (token, n) = part_at(&line[start..], start);
+    let text = &line[start..];
+    let (token, n) = Part { text, start }.token();
     (token, start + n)
 }

@@ -7,7 +7,7 @@ ghost use Rattle.lines.specs.Words.{unit_of, reserved, plain_word_of, word_of};
 // exponents of inch and of kip
 pub type Unit = (i8, i8);
 
-#[derive(Clone, Copy, PartialEq, Eq, Debug)]
+#[derive(Clone, Copy)]
 pub enum Word {
     Entry,
     Line,

@@ -55,6 +55,8 @@ pub(crate) trait Counted: Copy {
     ghost grid: { IsGrid gauge };
 }
 
+// The working stands apart from the methods below: its proof is written out, so that a wrong line there is refused as a fact that does not hold.
+
 // So many counts, rounded as told. Inlined, it is as fast as one for each form.
 #[inline]
 fn rounded<C: Counted, W: Whole>(ratio: Ratio<W>, rounding: Rounding) -> Result<C, Refusal>

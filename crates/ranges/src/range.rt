@@ -155,7 +155,7 @@ impl<F: Form> Range<F> {
         Ok(extreme_of_four(ll, lh, hl, hh, rounding))
     }
 
-    // The outer one of the four products of ends.
+    // The outer one of the four products of ends. (Like `outer_quotient` it shows of its step what `outer_end` asks, which each shows in its own way.)
     fn outer_product(self, other: Range<F>, rounding: Rounding) -> Result<F, Refusal>
         ensures { Corner F.Grid.gauge rounding (corners ◌*ᶠ◌ (span F.Grid.gauge self) (span F.Grid.gauge other)) result }
     {

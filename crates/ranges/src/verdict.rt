@@ -36,6 +36,8 @@ impl fmt::Display for Verdict {
     }
 }
 
+// The sides of a rule stay two arguments, as those of left ≤ right are: a struct of both would be taken apart at once.
+
 // Whether x is above zero.
 fn above_zero<F: Grid>(x: F) -> bool
     ensures { IsTrue result ↔ (zeroᶠ <ᶠ F.Grid.gauge.meaning x) }

@@ -43,6 +43,7 @@ impl fmt::Display for Steps<'_> {
     }
 }
 
+// (The type is of another crate, so it has no `Display` here.)
 fn sign(op: Op) -> &'static str {
     match op {
         Op::Add => "+",

@@ -68,6 +68,7 @@ impl Counted for Sig {
 }
 
 impl Sig {
+    // What `count` gives: the proof is written out here, so that a wrong line there is refused as a fact that does not hold.
     fn counted(self) -> i64
         ensures { result ≡ self.mantissa *ℤ pos (10 ^ self.exponent) }
     {

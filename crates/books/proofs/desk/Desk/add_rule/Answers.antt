@@ -1,5 +1,4 @@
 use Rattle.std.proofs.Common.{length, take, drop, ap, ◌∙◌, arith, length-take}
-use Rattle.std.proofs.lemmas.List.{take_all}
 use Rattle.books.specs.Drafts.{look_in, Grows}
 use Rattle.books.proofs.Refusals.{steps_count}
 use Rattle.books.proofs.Standing.{within_of}
@@ -7,14 +6,14 @@ use Rattle.books.proofs.desk.Desk.add_rule.Goals as goal
 
 pub split_at-requires : goal.split_at-requires
 split_at-requires c =
-    let st = c.requires.stated in
+    let st = c.requires in
     let k = c.in_ok-unit.ensures st.0 st.1 st.2 st.3 in
     omega (arith, length-take c.args.split c.check_rule.new.self.row, ap length k.is_left, steps_count (look_in c.args.book.now) st.0 k.f k.known_left, st.3, ap length c.as_slice.ensures.items)
 
 pub push_rule-requires-clause-stands : goal.push_rule-requires-clause-stands
 push_rule-requires-clause-stands c =
     let d = c.args.book.now in
-    let st = c.requires.stated in
+    let st = c.requires in
     let k = c.in_ok-unit.ensures st.0 st.1 st.2 st.3 in
     record {
       f = k.f;
@@ -32,8 +31,8 @@ push_rule-requires-clause-stands c =
 pub returns : goal.returns
 returns c = λ t u q at.
     let k = c.in_ok-unit.ensures t u q at in
-    let name = c.new.ensures ∙ take_all 16 c.args.name.now c.requires.room.1.1 in
     let is_left = c.split_at.ensures.front ∙ ap (take c.args.split) c.as_slice.ensures.items ∙ k.is_left in
     let is_right = c.split_at.ensures.back ∙ ap (drop c.args.split) c.as_slice.ensures.items ∙ k.is_right in
     let p = c.push_rule.ensures in
-    (k.unrefused, rw (p.1, is_left, is_right, ← name) (Grows.rule c.new.result p.0 (omega (arith, ap length name, c.requires.room.1.1)) k.known_left k.known_right k.left_unit (p.2 k.f k.g is_left is_right)))
+    let short = rw c.text.ensures.text at c.text.ensures.short in
+    (rw c.text.ensures.text at k.unrefused, rw (p.1, is_left, is_right) (Grows.rule c.args.name p.0 short k.known_left k.known_right k.left_unit (p.2 k.f k.g is_left is_right)))

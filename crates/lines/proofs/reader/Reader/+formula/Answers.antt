@@ -16,16 +16,16 @@ joined-loop-op-init t c = (joined_first c.args.rank c.in_ok-operand.ensures.read
 pub joined-returns-in_default-clause-reads : goal.joined-returns-in_default-clause-reads
 joined-returns-in_default-clause-reads t c = joined_all c.args.rank c.loop-op.invariant.0 (ap (begins (rank_signs c.args.rank)) c.next_token-after.ensures.parts ∙ c.in_default.ensures _)
 
-pub joined-returns-in_err-operand-2-clause-reads : goal.joined-returns-in_err-operand-2-clause-reads
-joined-returns-in_err-operand-2-clause-reads t c =
+pub joined-returns-in_err-after_sign-clause-reads : goal.joined-returns-in_err-after_sign-clause-reads
+joined-returns-in_err-after_sign-clause-reads t c =
     let a = c.in-Some.ensures in
-    broken _ _ _ _ c.from_residual-in_err-operand-2.ensures.1 (joined_refused c.args.rank c.in-Some.op _ c.loop-op.invariant.0 (at_part _ c.next_token-after.ensures.parts a.1) a.2 c.in_err-operand-2.ensures.reads)
+    broken _ _ _ _ c.from_residual-in_err-after_sign.ensures.1 (joined_refused c.args.rank c.in-Some.op _ c.loop-op.invariant.0 (at_part _ c.next_token-after.ensures.parts a.1) a.2 c.in_err-after_sign.ensures.reads)
 
 pub joined-loop-op-preserved : goal.joined-loop-op-preserved
 joined-loop-op-preserved t c =
     let a = c.in-Some.ensures in
     let sign = c.next_token-after.ensures in
-    let more = c.in_ok-operand-2.ensures in
+    let more = c.in_ok-after_sign.ensures in
     (joined_more c.args.rank c.in-Some.op c.loop-op.invariant.0 (at_part _ sign.parts a.1) a.2 more.reads (one_step _ _ _ _ c.push.ensures.items), search rules, (omega (arith, sign.moves, more.moves.1.0), omega (arith, sign.moves, ap least a.1, more.moves.1.1)))
 
 pub factor-returns-in-Number-clause-reads : goal.factor-returns-in-Number-clause-reads

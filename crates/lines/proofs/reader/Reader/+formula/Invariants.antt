@@ -28,6 +28,9 @@ decreases-product l = left_at l.self.now 3
 abbrev pub decreases-sum : goal.decreases-sum
 decreases-sum l = left_at l.self.now 6
 
+abbrev pub decreases-after_sign : goal.decreases-after_sign
+decreases-after_sign l = left_at l.self.now 6
+
 abbrev pub decreases-group : goal.decreases-group
 decreases-group l = left_at l.self.now 7
 

@@ -3,9 +3,9 @@ use Rattle.std.specs.Option.{option_map}
 use Rattle.lines.specs.Reading.{items}
 use Rattle.books.specs.Names.{resolved}
 use Rattle.books.specs.Drafts.{look_in}
-use Rattle.books.proofs.names.resolve.Given as goal
+use Rattle.books.proofs.desk.Desk.resolve.Given as goal
 
 abbrev pub invariant-loop-x : goal.invariant-loop-x
 invariant-loop-x l =
     let look = look_in l.book in
-    (resolved look (items l.line l.raw) ≡ option_map (λ more. l.row ++ more) (resolved look (items l.line (drop l.x-index l.raw)))) × (length l.row ≡ l.x-index)
+    (resolved look (items l.line l.x-items) ≡ option_map (λ more. l.row ++ more) (resolved look (items l.line (drop l.x-index l.x-items)))) × (length l.row ≡ l.x-index)
