@@ -41,10 +41,7 @@ impl Desk {
         let row = &mut self.row;
         row.clear();
         for x in parsed.raw.as_slice() {
-            let Some(step) = step_of(book, line, *x) else {
-                return Err(Refusal::Unknown);
-            };
-            row.push(step);
+            row.push(step_of(book, line, *x).ok_or(Refusal::Unknown)?);
         }
         Ok(())
     }

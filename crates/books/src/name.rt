@@ -38,6 +38,7 @@ impl Name {
         Name { bytes, len }
     }
 
+    // (No `==`, which compares values of one type.)
     pub(crate) fn is(&self, text: &[u8]) -> bool
         ensures { result ≡ bytes_eq self.now text.now }
     {

@@ -29,6 +29,7 @@ pub struct Needs {
 }
 
 // steps of the book, from a place on: those of all formulas lie in one list, whose memory was taken when the draft was opened
+// (a `Place` is of bytes in a line)
 #[derive(Clone, Copy)]
 pub struct Span {
     pub start: usize,

@@ -26,7 +26,7 @@ fn value(mantissa: i32, exponent: i32) -> Option<Sig> {
     Some(value)
 }
 
-// (The type is of another crate, so it has no `FromStr` here.)
+// (The type is of another crate, so it has no `FromStr` here; that crate reads no text.)
 fn sign(word: &str) -> Option<Sign> {
     match word {
         "+" => Some(Sign::Plus),

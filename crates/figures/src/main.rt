@@ -50,6 +50,7 @@ impl Printer<'_> {
     fn working(&self, working: Working<'_>) -> anyhow::Result<()> {
         let heap = self.rt.alloc();
         let mut formula = Formula::new(heap, working.first.text)?;
+        // The number of a link says how much of the working stands so far.
         for (i, link) in working.links.iter().enumerate() {
             formula = formula.joined(heap, *link)?;
             let part = Working {

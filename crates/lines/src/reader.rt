@@ -115,7 +115,7 @@ impl<'a, 's> Reader<'a, 's> {
         }
     }
 
-    // Products joined by + and -; `left` is how many parentheses may still open.
+    // Products joined by + and -; `left` is how many parentheses may still open. (No field, since behind a parenthesis it is again what it was.)
     #[cycle(formula)]
     pub(crate) fn sum(&mut self, left: usize) -> Result<(), Refusal>
         ensures reads { Formula Sum joins left (ahead self.old) result self.old self.new }
@@ -151,7 +151,8 @@ impl<'a, 's> Reader<'a, 's> {
         }
     }
 
-    // What a sign of the rank joins to what stands left of it: one operand, since signs of one rank join from the left.
+    // What a sign of the rank joins to what stands left of it: one operand, since signs of one rank join from the left. Apart from `operand`, so that a wrong
+    // line here is refused as a fact that does not hold.
     #[cycle(formula)]
     fn after_sign(&mut self, of: Rank, left: usize) -> Result<(), Refusal>
         ensures reads { Formula (Operand of) (tight of) left (ahead self.old) result self.old self.new }
@@ -166,6 +167,7 @@ impl<'a, 's> Reader<'a, 's> {
         ensures reads { Formula (Operand rank) (tight rank) left (ahead self.old) result self.old self.new }
         ensures moves { Advances result self.old self.new }
     {
+        // By a match, since sum, product and factor are functions that call each other.
         match rank {
             Rank::Sum => self.product(left),
             Rank::Product => self.factor(left),

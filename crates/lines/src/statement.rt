@@ -31,7 +31,7 @@ pub enum Statement {
         name: Place,
         // the right side is under a root
         root: bool,
-        // how many steps the left side has
+        // how many steps the left side has: both sides' lie in the memory that was lent
         split: usize,
     },
 }

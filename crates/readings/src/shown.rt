@@ -43,7 +43,7 @@ impl fmt::Display for Steps<'_> {
     }
 }
 
-// (The type is of another crate, so it has no `Display` here.)
+// (The type is of another crate, so it has no `Display` here, and a struct around it for one use is no plainer.)
 fn sign(op: Op) -> &'static str {
     match op {
         Op::Add => "+",
