@@ -11,6 +11,7 @@ use Rattle.books.specs.declared.step.Line.{Line}
 use Rattle.books.specs.declared.step.Needs.{Needs}
 use Rattle.books.specs.declared.step.Rule.{Rule}
 use Rattle.books.specs.declared.step.Step.{Step}
+use Rattle.books.specs.Names.{text_of}
 use Rattle.books.specs.Formulas.{Named, entry, line, Formula, steps, formula}
 use Rattle.books.specs.Needs.{in_words, reaches, any_name, row_entry, row_line}
 use Rattle.books.specs.Books.{Lists, Stands, within, LinesStand, LineWords}
@@ -31,7 +32,7 @@ line_words_kept es ls row c h w k x = ⊎_elim
     (cases_lt k (length ls))
 
 -- the lists with an entry at the end, whose name is a text of at most 16
-pub grows_entry : (d d' : Lists) (name : Name) (u : ℤ × ℤ) (text : List ℕ) → d' ≡ with_entry d name u → text ≡ name → length text ≤ 16 → Grows d (Stated.entry name u) d'
+pub grows_entry : (d d' : Lists) (name : Name) (u : ℤ × ℤ) (text : List ℕ) → d' ≡ with_entry d name u → text ≡ text_of name → length text ≤ 16 → Grows d (Stated.entry (text_of name) u) d'
 grows_entry d d' name u text e p short = rw e (Grows.entry name (rw p at short))
 
 module _ (d : Lists) (s : Stands d) where
@@ -43,6 +44,8 @@ module _ (d : Lists) (s : Stands d) where
       record {
         few_entries = omega (arith, length-append d.entries more);
         few_lines = s.few_lines;
+        few_rules = s.few_rules;
+        few_steps = s.few_steps;
         lines_stand = simp append-nil at (lines_more d.entries more d.lines [] d.steps [] s.lines_stand);
         line_words = s.line_words;
         rules_stand = simp append-nil at (rules_more d.entries more d.lines [] d.rules d.steps [] s.rules_stand);
@@ -61,12 +64,14 @@ module _ (d : Lists) (s : Stands d) where
     line_needs g e x =
         rw (steps_same g f (sym e ∙ is)) (Decides-at _ _ (words x) (needed_decides d.entries d.lines d.steps s.lines_stand s.line_words f w x))
 
-    pub stands_line : (name : Name) (u : ℤ × ℤ) → unit_in d f ≡ Ok u → length d.lines < 64 → length more ≤ 120 → Stands (with_line d name u needs more)
-    stands_line name u has_unit few short =
+    pub stands_line : (name : Name) (u : ℤ × ℤ) → unit_in d f ≡ Ok u → length d.lines < 64 → length d.steps + length more ≤ 1024 → length more ≤ 120 → Stands (with_line d name u needs more)
+    stands_line name u has_unit few room short =
         let l : Line = record { name = name; unit = u; steps = record { start = length d.steps; len = length more }; needs = needs } in
         record {
           few_entries = s.few_entries;
           few_lines = omega (arith, length-append d.lines (l ∷ []));
+          few_rules = s.few_rules;
+          few_steps = omega (arith, length-append d.steps more);
           lines_stand = lines_push d.entries d.lines d.steps more l f s.lines_stand is short w refl has_unit;
           line_words = line_words_push d.entries d.lines d.steps more l f s.lines_stand s.line_words is w refl words;
           rules_stand = simp append-nil at (rules_more d.entries [] d.lines (l ∷ []) d.rules d.steps more s.rules_stand);
@@ -80,12 +85,14 @@ module _ (d : Lists) (s : Stands d) where
     rule_needs f g p q x =
         rw (steps_same f sides.f (sym p ∙ sides.is_left), steps_same g sides.g (sym q ∙ sides.is_right)) (Decides-at _ _ (words x) (needed_both d.entries d.lines d.steps s.lines_stand s.line_words sides.f sides.g sides.left_within sides.right_within x))
 
-    pub stands_rule : (name : Name) → length left ≤ 120 → length right ≤ 120 → Stands (with_rule d name root u needs left right)
-    stands_rule name short shorter =
+    pub stands_rule : (name : Name) → length d.rules < 64 → length d.steps + (length left + length right) ≤ 1024 → length left ≤ 120 → length right ≤ 120 → Stands (with_rule d name root u needs left right)
+    stands_rule name few room short shorter =
         let r : Rule = record { name = name; root = root; unit = u; left = record { start = length d.steps; len = length left }; right = record { start = length d.steps + length left; len = length right }; needs = needs } in
         record {
           few_entries = s.few_entries;
           few_lines = s.few_lines;
+          few_rules = omega (arith, length-append d.rules (r ∷ []));
+          few_steps = omega (arith, length-append d.steps (left ++ right), length-append left right);
           lines_stand = simp append-nil at (lines_more d.entries [] d.lines [] d.steps (left ++ right) s.lines_stand);
           line_words = line_words_kept d.entries d.lines d.steps (left ++ right) s.lines_stand s.line_words;
           rules_stand = rules_push d.entries d.lines d.rules d.steps left right r sides.f sides.g sides.other s.rules_stand sides.is_left sides.is_right short shorter sides.left_within sides.right_within refl refl sides.left_unit sides.right_unit sides.agrees;

@@ -17,7 +17,7 @@ use Rattle.books.specs.declared.step.Line.{Line}
 use Rattle.books.specs.declared.step.Rule.{Rule}
 use Rattle.books.specs.declared.step.Span.{Span}
 use Rattle.books.specs.declared.step.Step.{Step}
-use Rattle.books.specs.Names.{found}
+use Rattle.books.specs.Names.{text_of, found}
 use Rattle.books.specs.Formulas.{Named, entry, line, Formula, steps, formula, operand, join_both, formula_of}
 use Rattle.books.specs.Needs.{in_words, line_has, same, reaches, any_name}
 use Rattle.books.specs.Units.{after, join_units, formula_unit, same_unit, sides_agree}
@@ -280,7 +280,7 @@ module _ (e k : ℕ) where
 pub within_of : (es : List Entry) (ls : List Line) (rs : List Rule) (t : Tree) (f : Formula) → Counts t → formula_of (found es ls rs) t ≡ Some f → within (length es) (length ls) f ≡ true
 within_of es ls rs (Tree.number n u) f c q = let at : Formula.number n u ≡ f = cc q in subst (λ f. within (length es) (length ls) f ≡ true) at (lt-ltb n 1000000000 c)
 within_of es ls rs (Tree.name w) f c q =
-    let is_entry = λ (e : Entry). bytes_eq e.name w in
-    let is_line = λ (l : Line). bytes_eq l.name w in
-    found_inside (length es) (length ls) (position is_entry es) (position is_line ls) (list_any (λ (r : Rule). bytes_eq r.name w) rs) f (position_inside is_entry es) (position_inside is_line ls) q
+    let is_entry = λ (e : Entry). bytes_eq (text_of e.name) w in
+    let is_line = λ (l : Line). bytes_eq (text_of l.name) w in
+    found_inside (length es) (length ls) (position is_entry es) (position is_line ls) (list_any (λ (r : Rule). bytes_eq (text_of r.name) w) rs) f (position_inside is_entry es) (position_inside is_line ls) q
 within_of es ls rs (Tree.join o t u) f c q = both_within (length es) (length ls) o (formula_of (found es ls rs) t) (formula_of (found es ls rs) u) f (λ g h. within_of es ls rs t g c.0 h) (λ g h. within_of es ls rs u g c.1 h) q

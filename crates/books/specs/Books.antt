@@ -105,10 +105,12 @@ rule_reaches ls row (Some r) x = part_reaches ls row r.left x || part_reaches ls
 abbrev pub RuleWords : List Line → List Rule → List Step → Type 0
 RuleWords ls rs row = (k : ℕ) (x : Named) → rule_has (slice_get rs k) x ≡ rule_reaches ls row (slice_get rs k) x
 
--- all that, and that the numbers of entries and lines are below 64, as sets of 64 numbers hold them
+-- all that, and that a book has at most 64 of each, whose numbers are then below 64, as sets of 64 numbers hold them, and 1,024 steps
 pub record Stands (d : Lists) : Type 0 where
   pub few_entries : length d.entries ≤ 64
   pub few_lines : length d.lines ≤ 64
+  pub few_rules : length d.rules ≤ 64
+  pub few_steps : length d.steps ≤ 1024
   pub lines_stand : LinesStand d.entries d.lines d.steps
   pub line_words : LineWords d.lines d.steps
   pub rules_stand : RulesStand d.entries d.lines d.rules d.steps

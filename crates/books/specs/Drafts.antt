@@ -9,6 +9,7 @@ use Rattle.lines.specs.Grammar.{Tree, Stated, Line as IsLine}
 use Rattle.lines.specs.Tokens.{parts}
 use Rattle.lines.specs.Faults.{Refused, Shallow}
 use Rattle.lines.specs.Reading.{plain}
+use Rattle.books.specs.declared.book.Book.{Book}
 use Rattle.books.specs.declared.name.Name.{Name}
 use Rattle.books.specs.declared.refusal.Refusal.{Refusal}
 use Rattle.books.specs.declared.refusal.Refusal.TheVariants as refusal
@@ -17,11 +18,15 @@ use Rattle.books.specs.declared.step.Line.{Line}
 use Rattle.books.specs.declared.step.Rule.{Rule}
 use Rattle.books.specs.declared.step.Needs.{Needs}
 use Rattle.books.specs.declared.step.Step.{Step}
-use Rattle.books.specs.Names.{found}
+use Rattle.books.specs.Names.{text_of, found}
 use Rattle.books.specs.Formulas.{Named, Formula, steps, formula_of}
 use Rattle.books.specs.Needs.{Needed, in_words}
 use Rattle.books.specs.Units.{formula_unit, sides_agree}
 use Rattle.books.specs.Books.{Lists, part, units, formulas, within}
+
+-- the lists of a book
+abbrev pub lists_of : Book → Lists
+lists_of b = record { entries = b.entries; lines = b.lines; rules = b.rules; steps = b.steps }
 
 -- an empty book
 abbrev pub nothing : Lists
@@ -133,9 +138,9 @@ pub record RuleSides (d : Lists) (root : Bool) (unit : ℤ × ℤ) (left right :
 -- `Grows d s d'`: d' is d with what s states at the end, and nothing else
 pub data Grows (d : Lists) : Stated → Lists → Type 0 where
   blank : Grows d Stated.blank d
-  entry : (name : Name) {u : ℤ × ℤ} → length name ≤ 16 → Grows d (Stated.entry name u) (with_entry d name u)
-  line : (name : Name) (needs : Needs) {t : Tree} {f : Formula} {u : ℤ × ℤ} → length name ≤ 16 → formula_of (look_in d) t ≡ Some f → unit_in d f ≡ Ok u → Words needs (NeededIn d f) → Grows d (Stated.line name t) (with_line d name u needs (steps f))
-  rule : (name : Name) (needs : Needs) {root : Bool} {t u : Tree} {f g : Formula} {a : ℤ × ℤ} → length name ≤ 16 → formula_of (look_in d) t ≡ Some f → formula_of (look_in d) u ≡ Some g → unit_in d f ≡ Ok a → Words needs (λ x. NeededIn d f x ⊎ NeededIn d g x) → Grows d (Stated.rule name root t u) (with_rule d name root a needs (steps f) (steps g))
+  entry : (name : Name) {u : ℤ × ℤ} → length (text_of name) ≤ 16 → Grows d (Stated.entry (text_of name) u) (with_entry d name u)
+  line : (name : Name) (needs : Needs) {t : Tree} {f : Formula} {u : ℤ × ℤ} → length (text_of name) ≤ 16 → formula_of (look_in d) t ≡ Some f → unit_in d f ≡ Ok u → Words needs (NeededIn d f) → Grows d (Stated.line (text_of name) t) (with_line d name u needs (steps f))
+  rule : (name : Name) (needs : Needs) {root : Bool} {t u : Tree} {f g : Formula} {a : ℤ × ℤ} → length (text_of name) ≤ 16 → formula_of (look_in d) t ≡ Some f → formula_of (look_in d) u ≡ Some g → unit_in d f ≡ Ok a → Words needs (λ x. NeededIn d f x ⊎ NeededIn d g x) → Grows d (Stated.rule (text_of name) root t u) (with_rule d name root a needs (steps f) (steps g))
 
 -- the refusals of the reader are refusals of a book
 abbrev pub of_reader : Unread → Refusal

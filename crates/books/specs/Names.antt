@@ -1,10 +1,11 @@
 -- Names, and the steps of a formula with its names looked up.
-use Rattle.std.specs.Prelude.{ℕ, List, [], ◌∷◌, Some, None, Option}
+use Rattle.std.specs.Prelude.{ℕ, List, [], ◌∷◌, take, Some, None, Option}
 use Rattle.std.specs.Bool.{then_some}
 use Rattle.std.specs.List.{list_any, position}
 use Rattle.std.specs.Option.{option_map, option_or}
 use Rattle.std.specs.Str.{bytes_eq}
 use Rattle.lines.specs.Grammar.{Item}
+use Rattle.books.specs.declared.name.Name.{Name}
 use Rattle.books.specs.declared.step.Declared.{Declared}
 use Rattle.books.specs.declared.step.Declared.TheVariants as declared
 use Rattle.books.specs.declared.step.Entry.{Entry}
@@ -13,10 +14,14 @@ use Rattle.books.specs.declared.step.Rule.{Rule}
 use Rattle.books.specs.declared.step.Step.{Step}
 use Rattle.books.specs.declared.step.Step.TheVariants as step
 
+-- the letters and digits of a name
+abbrev pub text_of : Name → List ℕ
+text_of n = take n.len n.bytes
+
 -- what the name w stands for: an entry, a line or a rule, and the first of these that has it
 abbrev pub found : List Entry → List Line → List Rule → List ℕ → Option Declared
 found es ls rs w =
-    option_or (option_map (λ n. declared.Entry n) (position (λ (e : Entry). bytes_eq e.name w) es)) (option_or (option_map (λ n. declared.Line n) (position (λ (l : Line). bytes_eq l.name w) ls)) (then_some (list_any (λ (r : Rule). bytes_eq r.name w) rs) declared.Rule))
+    option_or (option_map (λ n. declared.Entry n) (position (λ (e : Entry). bytes_eq (text_of e.name) w) es)) (option_or (option_map (λ n. declared.Line n) (position (λ (l : Line). bytes_eq (text_of l.name) w) ls)) (then_some (list_any (λ (r : Rule). bytes_eq (text_of r.name) w) rs) declared.Rule))
 
 -- the step of an entry or a line; a rule is no operand
 abbrev pub known : Option Declared → Option Step

@@ -1,9 +1,5 @@
 // A book: entries, lines and rules, and the steps of their formulas. (What adds to it is in adding.rt, its checks in checks.rt.)
-ghost use Rattle.std.specs.Prelude.{◌≡◌, ℕ, ◌≤◌, length, Decides, IfOk};
-ghost use Rattle.sets.specs.Members.{has};
-ghost use Rattle.books.specs.Formulas.{entry};
-ghost use Rattle.books.specs.Books.{part, Stands};
-ghost use Rattle.books.specs.Drafts.{nothing, LinesHold, RulesHold, Whole, LineDepends, RuleDepends};
+ghost use Rattle.books.specs.Books.{Stands};
 
 use crate::places::places;
 use crate::reserved::Reserved;
@@ -11,25 +7,15 @@ use crate::slices::cut;
 use crate::step::{Entry, Line, Rule, Span, Step};
 use sets::Set64;
 use std::alloc::{AllocError, Global};
-use std::marker::Model;
 
+// (A ghost field, and no model, so that what holds of a book is known wherever there is one.)
 #[derive(Drop)]
 pub struct Book {
     pub(crate) entries: Reserved<Entry, 64>,
     pub(crate) lines: Reserved<Line, 64>,
     pub(crate) rules: Reserved<Rule, 64>,
     pub(crate) steps: Reserved<Step, 1024>,
-}
-
-// Clauses see its lists.
-impl Model for Book {
-    ghost use Rattle.books.specs.Books.{Lists, Stands};
-
-    ghost Value = { Lists };
-
-    ghost view = { λ b. record { entries = b.entries; lines = b.lines; rules = b.rules; steps = b.steps } };
-
-    ghost invariant = { λ b. Stands (record { entries = b.entries; lines = b.lines; rules = b.rules; steps = b.steps }) };
+    pub ghost stands: { Stands (record { entries = entries; lines = lines; rules = rules; steps = steps }) },
 }
 
 // the lines and the rules that depend on an entry
@@ -40,9 +26,15 @@ pub struct Dependents {
 }
 
 impl Book {
+    ghost use Rattle.std.specs.Prelude.{◌≡◌, ℕ, ◌≤◌, length, Decides, IfOk};
+    ghost use Rattle.sets.specs.Members.{has};
+    ghost use Rattle.books.specs.Formulas.{entry};
+    ghost use Rattle.books.specs.Books.{part, Stands};
+    ghost use Rattle.books.specs.Drafts.{lists_of, nothing, LinesHold, RulesHold, Whole, LineDepends, RuleDepends};
+
     // Takes all the memory that a book can need.
     pub(crate) fn open(heap: Global) -> Result<Book, AllocError>
-        ensures { IfOk result (λ b. b ≡ nothing) }
+        ensures { IfOk result (λ b. lists_of b ≡ nothing) }
     {
         Ok(Book {
             entries: Reserved::open(heap)?,
@@ -64,7 +56,7 @@ impl Book {
     pub fn lines(&self) -> &[Line]
         ensures items { result.now ≡ self.now.lines }
         ensures few { length result.now ≤ 64 }
-        ensures hold { LinesHold self.now }
+        ensures hold { LinesHold (lists_of self.now) }
     {
         self.lines.as_slice()
     }
@@ -73,7 +65,7 @@ impl Book {
     pub fn rules(&self) -> &[Rule]
         ensures items { result.now ≡ self.now.rules }
         ensures few { length result.now ≤ 64 }
-        ensures hold { RulesHold self.now }
+        ensures hold { RulesHold (lists_of self.now) }
     {
         self.rules.as_slice()
     }
@@ -82,15 +74,15 @@ impl Book {
     pub fn steps(&self, span: Span) -> &[Step]
         ensures items { result.now ≡ part self.now.steps span }
         ensures few { length self.now.steps ≤ 1024 }
-        ensures stands { Stands self.now }
+        ensures stands { Stands (lists_of self.now) }
     {
         cut(self.steps.as_slice(), span.start, span.len)
     }
 
     // Apart from `dependents`, since its proof is written out: a wrong line there is refused as a fact that does not hold.
     fn needing(&self, number: u8) -> Dependents
-        ensures lines { (k : ℕ) → Decides (has result.lines k) (LineDepends self.now k (entry number)) }
-        ensures rules { (k : ℕ) → Decides (has result.rules k) (RuleDepends self.now k (entry number)) }
+        ensures lines { (k : ℕ) → Decides (has result.lines k) (LineDepends (lists_of self.now) k (entry number)) }
+        ensures rules { (k : ℕ) → Decides (has result.rules k) (RuleDepends (lists_of self.now) k (entry number)) }
     {
         let lines = self.lines.as_slice();
         let rules = self.rules.as_slice();
@@ -102,18 +94,17 @@ impl Book {
 
     // The lines and the rules that depend on the entry of the number.
     pub fn dependents(&self, number: u8) -> Dependents
-        ensures lines { (k : ℕ) → Decides (has result.lines k) (LineDepends self.now k (entry number)) }
-        ensures rules { (k : ℕ) → Decides (has result.rules k) (RuleDepends self.now k (entry number)) }
+        ensures lines { (k : ℕ) → Decides (has result.lines k) (LineDepends (lists_of self.now) k (entry number)) }
+        ensures rules { (k : ℕ) → Decides (has result.rules k) (RuleDepends (lists_of self.now) k (entry number)) }
     {
         self.needing(number)
     }
 
-    // The book itself. What holds of every book is known where one of its fields is read.
+    // The book itself, and what holds of every book.
     pub(crate) fn whole(self) -> Book
         ensures same { result ≡ self }
-        ensures whole { Whole result }
+        ensures whole { Whole (lists_of result) }
     {
-        let _ = &self.entries;
         self
     }
 }

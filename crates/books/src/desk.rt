@@ -2,8 +2,8 @@
 ghost use Rattle.std.specs.Prelude.{◌≡◌, ◌≤◌, ◌++◌, length, take, drop, vec_len, Some, None, MatchResult};
 ghost use Rattle.lines.specs.Grammar.{Tree, Stated, Counts, postfix};
 ghost use Rattle.lines.specs.Reading.{items};
-ghost use Rattle.books.specs.Names.{resolved};
-ghost use Rattle.books.specs.Drafts.{look_in, refusal_of, LineChecked, RuleChecked, Settles};
+ghost use Rattle.books.specs.Names.{text_of, resolved};
+ghost use Rattle.books.specs.Drafts.{lists_of, look_in, refusal_of, LineChecked, RuleChecked, Settles};
 
 use crate::book::Book;
 use crate::name::Name;
@@ -35,7 +35,7 @@ impl Desk {
 
     // The steps with their names looked up, left in `row`, or the refusal where a name is unknown.
     fn resolve(&mut self, book: &Book, line: &[u8]) -> Result<(), Refusal>
-        ensures { MatchResult result (λ _. resolved (look_in book.now) (items line.now self.old.parsed.raw.items) ≡ Some self.new.row) (λ e. (e ≡ Refusal.Unknown) × (resolved (look_in book.now) (items line.now self.old.parsed.raw.items) ≡ None)) }
+        ensures { MatchResult result (λ _. resolved (look_in (lists_of book.now)) (items line.now self.old.parsed.raw.items) ≡ Some self.new.row) (λ e. (e ≡ Refusal.Unknown) × (resolved (look_in (lists_of book.now)) (items line.now self.old.parsed.raw.items) ≡ None)) }
     {
         let parsed = &self.parsed;
         let row = &mut self.row;
@@ -48,7 +48,7 @@ impl Desk {
 
     // Looks up the names of a line and checks its units; its steps are left in `row`.
     fn check_line(&mut self, book: &Book, line: &[u8], name: &[u8]) -> Result<Unit, Refusal>
-        ensures { (t : Tree) → items line.now self.old.parsed.raw.items ≡ postfix t → MatchResult result (LineChecked book.now name.now t self.new.row) (λ e. refusal_of book.now (Stated.line name.now t) ≡ Some e) }
+        ensures { (t : Tree) → items line.now self.old.parsed.raw.items ≡ postfix t → MatchResult result (LineChecked (lists_of book.now) name.now t self.new.row) (λ e. refusal_of (lists_of book.now) (Stated.line name.now t) ≡ Some e) }
     {
         book.check_name(name)?;
         self.resolve(book, line)?;
@@ -68,7 +68,7 @@ impl Desk {
         split: usize,
     ) -> Result<Unit, Refusal>
         requires { split ≤ vec_len self.old.parsed.raw }
-        ensures { (t u : Tree) → items line.now self.old.parsed.raw.items ≡ postfix t ++ postfix u → split ≡ length (postfix t) → MatchResult result (RuleChecked book.now name.now root t u (take split self.new.row) (drop split self.new.row)) (λ e. refusal_of book.now (Stated.rule name.now root t u) ≡ Some e) }
+        ensures { (t u : Tree) → items line.now self.old.parsed.raw.items ≡ postfix t ++ postfix u → split ≡ length (postfix t) → MatchResult result (RuleChecked (lists_of book.now) name.now root t u (take split self.new.row) (drop split self.new.row)) (λ e. refusal_of (lists_of book.now) (Stated.rule name.now root t u) ≡ Some e) }
     {
         book.check_name(name)?;
         self.resolve(book, line)?;
@@ -91,7 +91,7 @@ impl Desk {
         name: Name,
     ) -> Result<(), Refusal>
         requires { (t : Tree) × (items line.now self.old.parsed.raw.items ≡ postfix t) × Counts t }
-        ensures { (t : Tree) → items line.now self.old.parsed.raw.items ≡ postfix t → Settles book.old (Stated.line name t) result book.new }
+        ensures { (t : Tree) → items line.now self.old.parsed.raw.items ≡ postfix t → Settles (lists_of book.old) (Stated.line (text_of name) t) result (lists_of book.new) }
     {
         let unit = self.check_line(book, line, name.text())?;
         book.push_line(name, unit, &self.row);
@@ -108,7 +108,7 @@ impl Desk {
         split: usize,
     ) -> Result<(), Refusal>
         requires { (t : Tree) × (u : Tree) × (items line.now self.old.parsed.raw.items ≡ postfix t ++ postfix u) × (split ≡ length (postfix t)) × Counts t × Counts u }
-        ensures { (t u : Tree) → items line.now self.old.parsed.raw.items ≡ postfix t ++ postfix u → split ≡ length (postfix t) → Settles book.old (Stated.rule name root t u) result book.new }
+        ensures { (t u : Tree) → items line.now self.old.parsed.raw.items ≡ postfix t ++ postfix u → split ≡ length (postfix t) → Settles (lists_of book.old) (Stated.rule (text_of name) root t u) result (lists_of book.new) }
     {
         let unit = self.check_rule(book, line, name.text(), root, split)?;
         let (left, right) = self.row.as_slice().split_at(split);

@@ -1,7 +1,7 @@
 // A draft: a book that takes lines. It is moved into a closed book, which takes none.
 ghost use Rattle.std.specs.Prelude.{◌≡◌, IfOk};
 ghost use Rattle.lines.specs.Grammar.{Stated};
-ghost use Rattle.books.specs.Drafts.{nothing, Reads, Settles, Unadded, Adds, Whole};
+ghost use Rattle.books.specs.Drafts.{lists_of, nothing, Reads, Settles, Unadded, Adds, Whole};
 ghost use Rattle.lines.specs.declared.refusal.Refusal.{Refusal as Unread};
 ghost use Rattle.lines.specs.Faults.{Refused};
 
@@ -20,11 +20,11 @@ pub struct Draft {
     desk: Desk,
 }
 
-// Clauses see the lists of its book.
+// Clauses see its book.
 impl Model for Draft {
-    ghost use Rattle.books.specs.Books.{Lists};
+    ghost use Rattle.books.specs.declared.book.Book.{Book};
 
-    ghost Value = { Lists };
+    ghost Value = { Book };
 
     ghost view = { λ d. d.book };
 }
@@ -32,7 +32,7 @@ impl Model for Draft {
 impl Draft {
     // Takes all the memory that a book can need; adding then asks for none.
     pub fn open(heap: Global) -> Result<Draft, AllocError>
-        ensures { IfOk result (λ d. d ≡ nothing) }
+        ensures { IfOk result (λ d. lists_of d ≡ nothing) }
     {
         Ok(Draft {
             book: Book::open(heap)?,
@@ -42,9 +42,9 @@ impl Draft {
 
     // Apart from `add`, since its proof is written out: a wrong line there is refused as a fact that does not hold.
     fn add_stated(&mut self, line: &[u8]) -> Result<(), Refusal>
-        ensures adds { Adds self.old line.now result self.new }
-        ensures settles { (s : Stated) → Reads line.now s → Settles self.old s result self.new }
-        ensures refused { (u : Unread) → Refused line.now u → Unadded self.old u result self.new }
+        ensures adds { Adds (lists_of self.old) line.now result (lists_of self.new) }
+        ensures settles { (s : Stated) → Reads line.now s → Settles (lists_of self.old) s result (lists_of self.new) }
+        ensures refused { (u : Unread) → Refused line.now u → Unadded (lists_of self.old) u result (lists_of self.new) }
     {
         match read_line(line, &mut self.desk.parsed)? {
             Statement::Blank => Ok(()),
@@ -65,9 +65,9 @@ impl Draft {
 
     // Adds what the line states at the end of the book, or adds nothing and says why.
     pub fn add(&mut self, line: &[u8]) -> Result<(), Refusal>
-        ensures adds { Adds self.old line.now result self.new }
-        ensures settles { (s : Stated) → Reads line.now s → Settles self.old s result self.new }
-        ensures refused { (u : Unread) → Refused line.now u → Unadded self.old u result self.new }
+        ensures adds { Adds (lists_of self.old) line.now result (lists_of self.new) }
+        ensures settles { (s : Stated) → Reads line.now s → Settles (lists_of self.old) s result (lists_of self.new) }
+        ensures refused { (u : Unread) → Refused line.now u → Unadded (lists_of self.old) u result (lists_of self.new) }
     {
         self.add_stated(line)
     }
@@ -75,7 +75,7 @@ impl Draft {
     // The book, which takes no more lines.
     pub fn close(self) -> Book
         ensures lists { result ≡ self }
-        ensures whole { Whole result }
+        ensures whole { Whole (lists_of result) }
     {
         self.book.whole()
     }

@@ -2,7 +2,7 @@
 ghost use Rattle.std.specs.Prelude.{◌≡◌};
 ghost use Rattle.lines.specs.Reading.{text_at, item};
 ghost use Rattle.books.specs.Names.{step_of};
-ghost use Rattle.books.specs.Drafts.{look_in};
+ghost use Rattle.books.specs.Drafts.{lists_of, look_in};
 
 use crate::book::Book;
 use crate::slices::cut;
@@ -11,7 +11,7 @@ use lines::{Place, Raw};
 
 // What the name stands for. Looked for in the lists themselves, since a map would ask for memory at each line.
 pub(crate) fn find(book: &Book, text: &[u8]) -> Option<Declared>
-    ensures { result ≡ look_in book.now text.now }
+    ensures { result ≡ look_in (lists_of book.now) text.now }
 {
     if let Some(i) = book.entries().iter().position(|entry| entry.name.is(text)) {
         return Some(Declared::Entry(i as u8));
@@ -32,7 +32,7 @@ pub(crate) fn text_at(line: &[u8], place: Place) -> &[u8]
 
 // The step, if its name is that of an entry or a line.
 pub(crate) fn step_of(book: &Book, line: &[u8], raw: Raw) -> Option<Step>
-    ensures { result ≡ step_of (look_in book.now) (item line.now raw) }
+    ensures { result ≡ step_of (look_in (lists_of book.now)) (item line.now raw) }
 {
     match raw {
         Raw::Number(count, unit) => Some(Step::Number(count, unit)),

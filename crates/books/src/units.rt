@@ -5,7 +5,7 @@ ghost use Rattle.std.specs.Ordering.{int_eq};
 ghost use Rattle.books.specs.Books.{units};
 ghost use Rattle.books.specs.Formulas.{Formula, steps};
 ghost use Rattle.books.specs.Units.{small_unit, each_exponent, IsExact, same_unit, times_unit, over_unit, join_units, sides_agree, step_unit, Pops, Steps};
-ghost use Rattle.books.specs.Drafts.{unit_in};
+ghost use Rattle.books.specs.Drafts.{lists_of, unit_in};
 
 use crate::book::Book;
 use crate::refusal::Refusal;
@@ -131,7 +131,7 @@ pub(crate) fn row_unit(
     stack: &mut Reserved<Unit, 120>,
 ) -> Result<Unit, Refusal>
     requires { length row.now ≤ 120 }
-    ensures { (f : Formula) → row.now ≡ steps f → result ≡ unit_in book.now f }
+    ensures { (f : Formula) → row.now ≡ steps f → result ≡ unit_in (lists_of book.now) f }
 {
     stack.clear();
     for step in row {

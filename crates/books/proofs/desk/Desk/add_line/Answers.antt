@@ -1,10 +1,10 @@
-use Rattle.books.specs.Drafts.{Grows}
+use Rattle.books.specs.Drafts.{lists_of, Grows}
 use Rattle.books.proofs.Standing.{within_of}
 use Rattle.books.proofs.desk.Desk.add_line.Goals as goal
 
 pub push_line-requires-clause-stands : goal.push_line-requires-clause-stands
 push_line-requires-clause-stands c =
-    let d = c.args.book.now in
+    let d = lists_of c.args.book.now in
     let st = c.requires in
     let k = c.in_ok-unit.ensures st.0 st.1 in
     (k.f, k.is_row, within_of d.entries d.lines d.rules st.0 k.f st.2 k.known, k.has_unit)

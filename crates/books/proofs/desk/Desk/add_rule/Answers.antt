@@ -1,5 +1,5 @@
 use Rattle.std.proofs.Common.{length, take, drop, ap, ◌∙◌, arith, length-take}
-use Rattle.books.specs.Drafts.{look_in, Grows}
+use Rattle.books.specs.Drafts.{lists_of, look_in, Grows}
 use Rattle.books.proofs.Refusals.{steps_count}
 use Rattle.books.proofs.Standing.{within_of}
 use Rattle.books.proofs.desk.Desk.add_rule.Goals as goal
@@ -8,11 +8,11 @@ pub split_at-requires : goal.split_at-requires
 split_at-requires c =
     let st = c.requires in
     let k = c.in_ok-unit.ensures st.0 st.1 st.2 st.3 in
-    omega (arith, length-take c.args.split c.check_rule.new.self.row, ap length k.is_left, steps_count (look_in c.args.book.now) st.0 k.f k.known_left, st.3, ap length c.as_slice.ensures.items)
+    omega (arith, length-take c.args.split c.check_rule.new.self.row, ap length k.is_left, steps_count (look_in (lists_of c.args.book.now)) st.0 k.f k.known_left, st.3, ap length c.as_slice.ensures.items)
 
 pub push_rule-requires-clause-stands : goal.push_rule-requires-clause-stands
 push_rule-requires-clause-stands c =
-    let d = c.args.book.now in
+    let d = lists_of c.args.book.now in
     let st = c.requires in
     let k = c.in_ok-unit.ensures st.0 st.1 st.2 st.3 in
     record {

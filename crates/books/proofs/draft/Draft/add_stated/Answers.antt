@@ -3,7 +3,7 @@ use Rattle.std.proofs.lemmas.List.{take_all}
 use Rattle.lines.specs.Grammar.{Stated, Line as IsLine, declares}
 use Rattle.lines.specs.Tokens.{Tok, parts}
 use Rattle.lines.proofs.Bounds.{line_small, name_short, line_names}
-use Rattle.books.specs.Drafts.{Grows, Settles}
+use Rattle.books.specs.Drafts.{lists_of, Grows, Settles}
 use Rattle.books.proofs.draft.Draft.add_stated.Goals as goal
 
 -- a declared name has at most 16 letters and digits
@@ -28,7 +28,7 @@ add_rule-requires c =
 pub returns-in-Blank : goal.returns-in-Blank
 returns-in-Blank c =
     let read = rw c.in-Blank.is at c.in_ok-read_line.ensures.reads.0 in
-    let settles : Settles c.self.inside.book Stated.blank (Ok tt) c.self.inside.book = (refl, Grows.blank) in
+    let settles : Settles (lists_of c.self.inside.book) Stated.blank (Ok tt) (lists_of c.self.inside.book) = (refl, Grows.blank) in
     search rules
 
 pub returns-in-Entry : goal.returns-in-Entry
