@@ -46,7 +46,7 @@ impl Book {
 
     // The entries, by their numbers.
     pub fn entries(&self) -> &[Entry]
-        ensures items { result.now ≡ self.now.entries }
+        ensures items { result.now ≡ (lists_of self.now).entries }
         ensures few { length result.now ≤ 64 }
     {
         self.entries.as_slice()
@@ -54,7 +54,7 @@ impl Book {
 
     // The lines, by their numbers.
     pub fn lines(&self) -> &[Line]
-        ensures items { result.now ≡ self.now.lines }
+        ensures items { result.now ≡ (lists_of self.now).lines }
         ensures few { length result.now ≤ 64 }
         ensures hold { LinesHold (lists_of self.now) }
     {
@@ -63,7 +63,7 @@ impl Book {
 
     // The rules, by their numbers.
     pub fn rules(&self) -> &[Rule]
-        ensures items { result.now ≡ self.now.rules }
+        ensures items { result.now ≡ (lists_of self.now).rules }
         ensures few { length result.now ≤ 64 }
         ensures hold { RulesHold (lists_of self.now) }
     {
@@ -72,8 +72,8 @@ impl Book {
 
     // The steps of a span, clipped where it leaves the book's steps, as no span of a line or a rule does.
     pub fn steps(&self, span: Span) -> &[Step]
-        ensures items { result.now ≡ part self.now.steps span }
-        ensures few { length self.now.steps ≤ 1024 }
+        ensures items { result.now ≡ part (lists_of self.now).steps span }
+        ensures few { length (lists_of self.now).steps ≤ 1024 }
         ensures stands { Stands (lists_of self.now) }
     {
         cut(self.steps.as_slice(), span.start, span.len)

@@ -6,11 +6,16 @@ use Rattle.std.specs.Int.{int_div_euclid}
 use Rattle.numbers.specs.declared.grid.Rounding.{Rounding}
 use Rattle.numbers.specs.declared.grid.Rounding.TheVariants.{Down, Up}
 use Rattle.numbers.specs.Grids.{IsQuotient}
-use Rattle.numbers.specs.Integers.{spread_left, mul_le_back, mul_lt_back}
+use Rattle.numbers.specs.Integers.{spread_left, neg_left, mul_le_back, mul_lt_back}
 
 pub floor : (n : ℤ) (d : ℕ) → 0 < d → IsQuotient Down n d (int_div_euclid n (pos d))
 floor (pos a) d h = omega (arith, ints)
 floor (negsuc a) d h = omega (arith, ints, spread_left (negsuc (a / d)) (pos 1) (pos d))
+
+-- up is down on the other side of zero
+pub ceiling : (n k : ℤ) (d : ℕ) → IsQuotient Down (neg_ℤ n) d k → IsQuotient Up n d (neg_ℤ k)
+ceiling n k d h =
+    (omega (arith, ints, neg_left k (pos d), h.0), omega (arith, ints, h.1, spread_left k (pos 1) (pos d), spread_left (neg_ℤ k) (neg_ℤ (pos 1)) (pos d), neg_left k (pos d)))
 
 -- n/d from -t to t has its quotient there too
 pub stays_within : (rounding : Rounding) (n k : ℤ) (d t : ℕ) → 0 < d → IsQuotient rounding n d k → (neg_ℤ (pos t) *ℤ pos d) ≤ℤ n → n ≤ℤ (pos t *ℤ pos d) → (neg_ℤ (pos t) ≤ℤ k) × (k ≤ℤ pos t)
